@@ -1,0 +1,171 @@
+// Dates as Modified Julian Days, timelines, a shot's slot, and the film frame number.
+use rules::Refusal;
+use rules::Verdict;
+use rules::Why;
+ghost use mathlib.Core.Path.{_≡_};
+ghost use Prim.Native.Nat.{_<_};
+ghost use lib.IntN.{pos, _-ℤ_};
+ghost use Rattle.rules.specs.Rules.{paper, judge, fine};
+ghost use Rattle.calendar.specs.Dates.{leap, monthLength, monthStart, paperDay, dayOf};
+ghost use Rattle.calendar.specs.Shots.{goodDay, goodTimeline, slotAt, shot, paperSlot, slotOf, shots, paperFrame, frameOf};
+
+// The Modified Julian Day of a date.
+pub enum Dated {
+    Day(u32),
+    NoSuchDate,
+}
+
+// A shot's slot: how many times ten minutes it lies after the day numbered 0.
+pub enum Slotted {
+    Slot(u64),
+    Refused(Refusal),
+}
+
+// A shot's number on the film, counted from the first shot.
+pub enum FilmFrame {
+    Number(i64),
+    Refused(Refusal),
+}
+
+fn is_leap(year: u32) -> bool
+    ensures { λ r. ⌜ r ≡ leap year ⌝ }
+{
+    if year % 400 == 0 {
+        return true;
+    }
+    if year % 100 == 0 {
+        return false;
+    }
+    year % 4 == 0
+}
+
+fn month_length(year: u32, month: u32) -> u32
+    ensures { λ r. ⌜ r ≡ monthLength year month ⌝ }
+{
+    match month {
+        2 => { if is_leap(year) { 29 } else { 28 } }
+        4 | 6 | 9 | 11 => 30,
+        _ => 31,
+    }
+}
+
+// The day on which a month begins, months counted from January 2000 as 0.
+fn month_start(i: u32) -> u32
+    requires { ⌜ i < 1200 ⌝ }
+    ensures { λ r. ⌜ r ≡ monthStart i ⌝ }
+{
+    let k = i / 12;
+    let m = i % 12 + 1;
+    let base = 51544 + 365 * k + (k + 3) / 4 + (367 * m - 362) / 12;
+    if m <= 2 {
+        return base;
+    }
+    if k % 4 == 0 {
+        return base - 1;
+    }
+    base - 2
+}
+
+// The day of a real Gregorian date of 2000 to 2099.
+pub fn day_of(year: u32, month: u32, day: u32) -> Dated
+    ensures { λ r. ⌜ paperDay r ≡ dayOf year month day ⌝ }
+{
+    if year < 2000 {
+        return Dated::NoSuchDate;
+    }
+    if 2099 < year {
+        return Dated::NoSuchDate;
+    }
+    if month < 1 {
+        return Dated::NoSuchDate;
+    }
+    if 12 < month {
+        return Dated::NoSuchDate;
+    }
+    if day < 1 {
+        return Dated::NoSuchDate;
+    }
+    if month_length(year, month) < day {
+        return Dated::NoSuchDate;
+    }
+    Dated::Day(month_start(12 * (year - 2000) + (month - 1)) + (day - 1))
+}
+
+// Whether a day is one of 2000-01-01 to 2099-12-31.
+pub fn good_day(day: u32) -> bool
+    ensures { λ r. ⌜ r ≡ goodDay day ⌝ }
+{
+    if day < 51544 { false } else { day <= 88068 }
+}
+
+// Whether a timeline is a time of day, hhmm, by tens of minutes.
+pub fn good_timeline(timeline: u16) -> bool
+    ensures { λ r. ⌜ r ≡ goodTimeline timeline ⌝ }
+{
+    if 23 < timeline / 100 {
+        return false;
+    }
+    let minute = timeline % 100;
+    match minute {
+        0 | 10 | 20 | 30 | 40 | 50 => true,
+        _ => false,
+    }
+}
+
+fn slot_at(day: u32, timeline: u16) -> u64
+    ensures { λ r. ⌜ r ≡ slotAt day timeline ⌝ }
+{
+    let hour = (timeline / 100) as u64;
+    let minute = (timeline % 100) as u64;
+    (day as u64) * 144 + hour * 6 + minute / 10
+}
+
+fn check_shot(day: u32, timeline: u16) -> Verdict
+    ensures { λ r. ⌜ paper r ≡ judge fine (shot day timeline) ⌝ }
+{
+    let v = rules::check(Verdict::Fine, good_day(day), Why::Field, 0);
+    rules::check(v, good_timeline(timeline), Why::Field, 0)
+}
+
+// A shot's slot.
+pub fn slot(day: u32, timeline: u16) -> Slotted
+    ensures { λ r. ⌜ paperSlot r ≡ slotOf day timeline ⌝ }
+{
+    let v = check_shot(day, timeline);
+    match v {
+        Verdict::Refused(t) => Slotted::Refused(t),
+        Verdict::Fine => Slotted::Slot(slot_at(day, timeline)),
+    }
+}
+
+fn check_shots(first_day: u32, first_timeline: u16, day: u32, timeline: u16) -> Verdict
+    ensures { λ r. ⌜ paper r ≡ judge fine (shots «first_day» «first_timeline» day timeline) ⌝ }
+{
+    let v = rules::check(Verdict::Fine, good_day(first_day), Why::Field, 0);
+    let v = rules::check(v, good_day(day), Why::Field, 0);
+    let v = rules::check(v, good_timeline(first_timeline), Why::Field, 0);
+    rules::check(v, good_timeline(timeline), Why::Field, 0)
+}
+
+// a minus b, negative where b is larger.
+fn difference(a: u64, b: u64) -> i64
+    requires { ⌜ (a < 9223372036854775808) × (b < 9223372036854775808) ⌝ }
+    ensures { λ r. ⌜ r ≡ pos a -ℤ pos b ⌝ }
+{
+    (a as i64) - (b as i64)
+}
+
+// The shot's slot minus the first shot's.
+pub fn frame_number(first_day: u32, first_timeline: u16, day: u32, timeline: u16) -> FilmFrame
+    ensures { λ r. ⌜ paperFrame r ≡ frameOf «first_day» «first_timeline» day timeline ⌝ }
+{
+    let v = check_shots(first_day, first_timeline, day, timeline);
+    match v {
+        Verdict::Refused(t) => FilmFrame::Refused(t),
+        Verdict::Fine => {
+            let first = slot_at(first_day, first_timeline);
+            let this = slot_at(day, timeline);
+            FilmFrame::Number(difference(this, first))
+        }
+    }
+}

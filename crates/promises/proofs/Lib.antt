@@ -1,0 +1,3 @@
+-- The promises.
+pub mod OneAnswer
+pub mod Cases

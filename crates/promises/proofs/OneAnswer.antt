@@ -1,0 +1,107 @@
+-- No second answer fits the contract of a public function, and none leaves other bytes in lent memory.
+-- `Post` is the contract as the source has it. Assumes nothing.
+use mathlib.Core.Path.{_≡_, sym, ap, _∙_}
+use denote.Ref.{now}
+use Rattle.promises.specs.Answers.{One}
+use Rattle.rules.proofs.Paper.{paper-one}
+use Rattle.calendar.proofs.Paper.{paperDay-one, paperSlot-one, paperFrame-one}
+use Rattle.wire.proofs.byte_at.Reads as byte-at
+use Rattle.wire.proofs.left.Reads as left
+use Rattle.wire.proofs.rest.Reads as rest
+use Rattle.wire.proofs.piece.Reads as piece
+use Rattle.wire.proofs.u16_at.Reads as u16-at
+use Rattle.wire.proofs.u32_at.Reads as u32-at
+use Rattle.wire.proofs.u64_at.Reads as u64-at
+use Rattle.wire.proofs.fill.Reads as fill
+use Rattle.wire.proofs.same.Reads as same
+use Rattle.wire.proofs.put.Reads as put
+use Rattle.wire.proofs.put_byte.Reads as put-byte
+use Rattle.wire.proofs.put_u16.Reads as put-u16
+use Rattle.wire.proofs.put_u32.Reads as put-u32
+use Rattle.wire.proofs.put_u64.Reads as put-u64
+use Rattle.rules.proofs.check.Reads as check
+use Rattle.rules.proofs.number_of.Reads as number-of
+use Rattle.calendar.proofs.day_of.Reads as day-of
+use Rattle.calendar.proofs.good_day.Reads as good-day
+use Rattle.calendar.proofs.good_timeline.Reads as good-timeline
+use Rattle.calendar.proofs.slot.Reads as slot
+use Rattle.calendar.proofs.frame_number.Reads as frame-number
+use Rattle.reading.proofs.read.Reads as read
+use Rattle.reading.proofs.float_of.Reads as float-of
+use Rattle.reading.proofs.calibration_of.Reads as calibration-of
+use Rattle.reading.proofs.marks_of.Reads as marks-of
+
+pub byte-at-one : One (λ κ x s. x) byte-at.Post
+byte-at-one κ a x y s t p q = p ∙ sym q
+
+pub left-one : One (λ κ x s. x) left.Post
+left-one κ a x y s t p q = p ∙ sym q
+
+pub rest-one : One (λ κ x s. now x) rest.Post
+rest-one κ a x y s t p q = p ∙ sym q
+
+pub piece-one : One (λ κ x s. now x) piece.Post
+piece-one κ a x y s t p q = p ∙ sym q
+
+pub u16-at-one : One (λ κ x s. x) u16-at.Post
+u16-at-one κ a x y s t p q = p ∙ sym q
+
+pub u32-at-one : One (λ κ x s. x) u32-at.Post
+u32-at-one κ a x y s t p q = p ∙ sym q
+
+pub u64-at-one : One (λ κ x s. x) u64-at.Post
+u64-at-one κ a x y s t p q = p ∙ sym q
+
+pub fill-one : One (λ κ x s. now (s .0)) fill.Post
+fill-one κ a x y s t p q = p ∙ sym q
+
+pub same-one : One (λ κ x s. x) same.Post
+same-one κ a x y s t p q = p ∙ sym q
+
+pub put-one : One (λ κ x s. now (s .0)) put.Post
+put-one κ a x y s t p q = p ∙ sym q
+
+pub put-byte-one : One (λ κ x s. now (s .0)) put-byte.Post
+put-byte-one κ a x y s t p q = p .is ∙ sym (q .is)
+
+pub put-u16-one : One (λ κ x s. now (s .0)) put-u16.Post
+put-u16-one κ a x y s t p q = p .is ∙ sym (q .is)
+
+pub put-u32-one : One (λ κ x s. now (s .0)) put-u32.Post
+put-u32-one κ a x y s t p q = p .is ∙ sym (q .is)
+
+pub put-u64-one : One (λ κ x s. now (s .0)) put-u64.Post
+put-u64-one κ a x y s t p q = p .is ∙ sym (q .is)
+
+pub check-one : One (λ κ x s. x) check.Post
+check-one κ a x y s t p q = paper-one x y (p ∙ sym q)
+
+pub number-of-one : One (λ κ x s. x) number-of.Post
+number-of-one κ a x y s t p q = p ∙ sym q
+
+pub day-of-one : One (λ κ x s. x) day-of.Post
+day-of-one κ a x y s t p q = paperDay-one x y (p ∙ sym q)
+
+pub good-day-one : One (λ κ x s. x) good-day.Post
+good-day-one κ a x y s t p q = p ∙ sym q
+
+pub good-timeline-one : One (λ κ x s. x) good-timeline.Post
+good-timeline-one κ a x y s t p q = p ∙ sym q
+
+pub slot-one : One (λ κ x s. x) slot.Post
+slot-one κ a x y s t p q = paperSlot-one x y (p ∙ sym q)
+
+pub frame-number-one : One (λ κ x s. x) frame-number.Post
+frame-number-one κ a x y s t p q = paperFrame-one x y (p ∙ sym q)
+
+pub read-one : One (λ κ x s. x) read.Post
+read-one κ a x y s t p q = p ∙ sym q
+
+pub float-of-one : One (λ κ x s. x) float-of.Post
+float-of-one κ a x y s t p q = p ∙ sym q
+
+pub calibration-of-one : One (λ κ x s. x) calibration-of.Post
+calibration-of-one κ a x y s t p q = p ∙ sym q
+
+pub marks-of-one : One (λ κ x s. x) marks-of.Post
+marks-of-one κ a x y s t p q = p ∙ sym q

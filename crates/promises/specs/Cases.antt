@@ -1,0 +1,64 @@
+-- The cases of document 01 that are marked P, in its order: one table, and what each line of it says.
+use mathlib.Core.Path.{_≡_}
+use mathlib.Core.Bool.{true, false}
+use mathlib.Core.List.{List, [], _∷_}
+use Prim.Native.Nat.{ℕ}
+use lib.IntN.{ℤ, pos, negsuc}
+use lib.Ieee.{Float, fin}
+use Rattle.rules.specs.Rules.{turned, Reply, says, refuses}
+use Rattle.calendar.specs.Dates.{dayOf}
+use Rattle.calendar.specs.Shots.{slotOf, frameOf}
+use Rattle.reading.specs.declared.Reading.{Reading}
+use Rattle.reading.specs.declared.Reading.the-variants.{Radiance, Outside, OverRange, Uncalibrated}
+use Rattle.reading.specs.Counts.{readingOf}
+
+pub data Case : Type 0 where
+  -- a gain, a constant, valid bits and a count: its reading
+  count : Float → Float → ℕ → ℕ → Reading → Case
+  -- a year, month and day: its Modified Julian Day
+  date : ℕ → ℕ → ℕ → Reply ℕ → Case
+  -- a day and timeline: its slot
+  slot : ℕ → ℕ → Reply ℕ → Case
+  -- the first shot's day and timeline, and the shot's: its film frame number
+  film : ℕ → ℕ → ℕ → ℕ → Reply ℤ → Case
+
+abbrev pub Holds : Case → Type 0
+Holds (count g k bits n r) = readingOf (record { gain = g; constant = k; bits = bits }) n ≡ r
+Holds (date y m d r) = dayOf y m d ≡ r
+Holds (slot d t r) = slotOf d t ≡ r
+Holds (film d₀ t₀ d t r) = frameOf d₀ t₀ d t ≡ r
+
+abbrev pub All : List Case → Type 0
+All [] = Unit
+All (x ∷ xs) = Holds x × All xs
+
+-- m and e stand for m times 2 to the e: 0.5, 4.0, 1,022.5 and 2 to the 1023; -1 has the sign
+abbrev half : Float
+half = fin false 1 (negsuc 0)
+
+abbrev minusOne : Float
+minusOne = fin true 1 (pos 0)
+
+abbrev four : Float
+four = fin false 1 (pos 2)
+
+abbrev highest : Float
+highest = fin false 2045 (negsuc 0)
+
+abbrev huge : Float
+huge = fin false 1 (pos 1023)
+
+abbrev pub table : List Case
+table =
+    count half minusOne 11 10 (Radiance four)
+    ∷ count half minusOne 11 2047 (Radiance highest)
+    ∷ count half minusOne 11 2048 OverRange
+    ∷ count half minusOne 11 65534 Outside
+    ∷ count huge minusOne 11 2 Uncalibrated
+    ∷ date 2015 7 7 (says 57210)
+    ∷ date 2099 12 31 (says 88068)
+    ∷ date 2023 2 29 (refuses (turned 10 1))
+    ∷ slot 57210 200 (says 8238252)
+    ∷ film 57209 2350 57210 0 (says (pos 1))
+    ∷ film 57210 0 57209 2350 (says (negsuc 0))
+    ∷ []

@@ -1,0 +1,3 @@
+-- The words in which the promises are made.
+pub mod Answers
+pub mod Cases

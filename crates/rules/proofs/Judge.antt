@@ -1,0 +1,50 @@
+-- A table of checks judged in parts, and what it means that none fails.
+-- Assumes nothing.
+use mathlib.Core.Path.{_≡_, refl, sym, _∙_}
+use mathlib.Core.List.{List, [], _∷_, _++_}
+use mathlib.Core.Logic.{_↔_}
+use mathlib.Core.Bool.{Bool, true, false}
+use Prim.Native.Nat.{ℕ}
+use native.Mathlib.Omega.{arith}
+use Rattle.rules.specs.Rules.{Row, test, Turned, checked, judge, Ruling, fine, refused}
+
+pub judge-append : (v : Ruling) (xs ys : List Row) → judge v (xs ++ ys) ≡ judge (judge v xs) ys
+judge-append v [] ys = refl
+judge-append v (test ok t ∷ xs) ys = judge-append (checked v ok t) xs ys
+
+judge-refused : (u : Turned) (rs : List Row) → judge (refused u) rs ≡ refused u
+unfolding checked
+judge-refused u [] = refl
+judge-refused u (test ok t ∷ rs) = judge-refused u rs
+
+-- every test of the table holds
+abbrev pub Holds : List Row → Type 0
+Holds [] = Unit
+Holds (test ok t ∷ rs) = (ok ≡ true) × Holds rs
+
+fine-holds : (rs : List Row) → judge fine rs ≡ fine → Holds rs
+unfolding checked
+fine-holds [] e = tt
+fine-holds (test true t ∷ rs) e = (refl, fine-holds rs e)
+fine-holds (test false t ∷ rs) e =
+    let f : refused t ≡ fine = sym (judge-refused t rs) ∙ e in
+    let z : _≡_ {A = ℕ} 0 1 = cc in
+    absurd (omega arith)
+
+holds-fine : (rs : List Row) → Holds rs → judge fine rs ≡ fine
+unfolding checked
+holds-fine [] h = refl
+holds-fine (test ok t ∷ rs) h = rw (h .0, holds-fine rs (h .1))
+
+-- all rows hold exactly when nothing is refused
+pub exactly : (rs : List Row) → (judge fine rs ≡ fine) ↔ Holds rs
+exactly rs = (fine-holds rs, holds-fine rs)
+
+-- a run of checks, from v to r: each test as the code makes it, and as the table has it
+pub data Judged : Ruling → List Row → Ruling → Type 0 where
+  none : {v : Ruling} → Judged v [] v
+  also : {v m r : Ruling} {ok a : Bool} {t : Turned} {rs : List Row} → m ≡ checked v ok t → ok ≡ a → Judged m rs r → Judged v (test a t ∷ rs) r
+
+pub judged : {v r : Ruling} {rs : List Row} → Judged v rs r → r ≡ judge v rs
+judged none = refl
+judged (also e f j) = judged j ∙ rw (e, f)

@@ -1,0 +1,73 @@
+-- Refusals in the paper's own numbers, and tables of checks: the first that fails answers.
+use Prim.Native.Nat.{ℕ}
+use mathlib.Core.List.{List, [], _∷_}
+use mathlib.Core.Bool.{Bool, true, false}
+use Rattle.rules.specs.declared.Why.{Why}
+use Rattle.rules.specs.declared.Why.the-variants.{Short, Number, Order, Length, Fixed, Packed, Field, HeaderSum, DataSum, Name, Cut, Tail, Slate, Strip, OtherShot, Already, Room}
+use Rattle.rules.specs.declared.Refusal.{Refusal}
+use Rattle.rules.specs.declared.Verdict.{Verdict}
+use Rattle.rules.specs.declared.Verdict.the-variants as verdicts
+
+-- the paper's number of a refusal
+abbrev pub numberOf : Why → ℕ
+numberOf Short = 1
+numberOf Number = 2
+numberOf Order = 3
+numberOf Length = 4
+numberOf Fixed = 5
+numberOf Packed = 6
+numberOf Field = 7
+numberOf HeaderSum = 8
+numberOf DataSum = 9
+numberOf Name = 10
+numberOf Cut = 11
+numberOf Tail = 12
+numberOf Slate = 13
+numberOf Strip = 14
+numberOf OtherShot = 15
+numberOf Already = 16
+numberOf Room = 17
+
+-- what the paper says with a refusal: its number and block
+pub data Turned : Type 0 where
+  turned : ℕ → ℕ → Turned
+
+abbrev pub paperOf : Refusal → Turned
+paperOf t = turned (numberOf (t .why)) (t .block)
+
+-- what the paper says after some checks: nothing is wrong, or a refusal
+pub data Ruling : Type 0 where
+  fine : Ruling
+  refused : Turned → Ruling
+
+unfoldable pub paper : Verdict → Ruling
+paper verdicts.Fine = fine
+paper (verdicts.Refused t) = refused (paperOf t)
+
+-- a test, and the refusal where it is false
+pub data Row : Type 0 where
+  test : Bool → Turned → Row
+
+abbrev pub row : Bool → ℕ → ℕ → Row
+row ok number block = test ok (turned number block)
+
+-- one check more, on top of what the checks before it said
+unfoldable pub checked : Ruling → Bool → Turned → Ruling
+checked (refused u) ok t = refused u
+checked fine true t = fine
+checked fine false t = refused t
+
+-- a table of checks, made in its order
+abbrev pub judge : Ruling → List Row → Ruling
+judge v [] = v
+judge v (test ok t ∷ rs) = judge (checked v ok t) rs
+
+-- what a function answers in the paper's words: a value, or a refusal
+pub data Reply (A : Type 0) : Type 0 where
+  says : A → Reply A
+  refuses : Turned → Reply A
+
+-- the value where nothing is wrong, and else the refusal
+unfoldable pub reply : {A : Type 0} → Ruling → A → Reply A
+reply fine a = says a
+reply (refused t) a = refuses t

@@ -1,0 +1,5 @@
+-- The laws, each proved once over every width and both orders.
+pub mod Spans
+pub mod Numbers
+pub mod Stores
+pub mod Equal
