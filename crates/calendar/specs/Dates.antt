@@ -7,12 +7,11 @@ use Rattle.calendar.specs.declared.Dated.{Dated}
 use Rattle.calendar.specs.declared.Dated.the-variants.{Day, NoSuchDate}
 
 -- every fourth year, but of the centuries only every fourth
-unfoldable pub leap : ℕ → Bool
+abbrev pub leap : ℕ → Bool
 leap y = eqb (y % 4) 0 && (not (eqb (y % 100) 0) || eqb (y % 400) 0)
 
 -- thirty days have September, April, June and November
 unfoldable pub monthLength : ℕ → ℕ → ℕ
-unfolding leap
 monthLength y m =
     cond (eqb m 2) (cond (leap y) 29 28)
     (cond (eqb m 4 || (eqb m 6 || (eqb m 9 || eqb m 11))) 30 31)

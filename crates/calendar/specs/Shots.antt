@@ -1,6 +1,6 @@
 -- A shot is a day and a timeline. Its slot, and its number on the film.
 use Prim.Native.Nat.{ℕ, _+_, _*_, _/_, _%_}
-use mathlib.Core.Bool.{Bool, false, _&&_, _||_}
+use mathlib.Core.Bool.{Bool, _&&_, _||_}
 use mathlib.Core.List.{List, [], _∷_}
 use lib.Dec.{eqb, leb}
 use lib.IntN.{ℤ, pos, _-ℤ_}
@@ -11,16 +11,15 @@ use Rattle.calendar.specs.declared.FilmFrame.{FilmFrame}
 use Rattle.calendar.specs.declared.FilmFrame.the-variants as film
 
 -- 51,544 is 2000-01-01, and 88,068 is 2099-12-31
-unfoldable pub goodDay : ℕ → Bool
+abbrev pub goodDay : ℕ → Bool
 goodDay d = leb 51544 d && leb d 88068
 
-abbrev pub oneOf : List ℕ → ℕ → Bool
-oneOf [] x = false
-oneOf (y ∷ ys) x = eqb x y || oneOf ys x
-
 -- hhmm as a number: hh 0 to 23, mm one of 0, 10, 20, 30, 40, 50
-unfoldable pub goodTimeline : ℕ → Bool
-goodTimeline t = leb (t / 100) 23 && oneOf (0 ∷ 10 ∷ 20 ∷ 30 ∷ 40 ∷ 50 ∷ []) (t % 100)
+abbrev minute : ℕ → Bool
+minute mm = eqb mm 0 || (eqb mm 10 || (eqb mm 20 || (eqb mm 30 || (eqb mm 40 || eqb mm 50))))
+
+abbrev pub goodTimeline : ℕ → Bool
+goodTimeline t = leb (t / 100) 23 && minute (t % 100)
 
 -- day x 144 + hh x 6 + mm / 10
 unfoldable pub slotAt : ℕ → ℕ → ℕ

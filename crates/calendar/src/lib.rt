@@ -6,7 +6,7 @@ ghost use mathlib.Core.Path.{_≡_};
 ghost use Prim.Native.Nat.{_<_};
 ghost use lib.IntN.{pos, _-ℤ_};
 ghost use Rattle.rules.specs.Rules.{paper, judge, fine};
-ghost use Rattle.calendar.specs.Dates.{leap, monthLength, monthStart, paperDay, dayOf};
+ghost use Rattle.calendar.specs.Dates.{leap, monthLength, monthStart, real, paperDay, dayOf};
 ghost use Rattle.calendar.specs.Shots.{goodDay, goodTimeline, slotAt, shot, paperSlot, slotOf, shots, paperFrame, frameOf};
 
 // The Modified Julian Day of a date.
@@ -30,23 +30,22 @@ pub enum FilmFrame {
 fn is_leap(year: u32) -> bool
     ensures { λ r. ⌜ r ≡ leap year ⌝ }
 {
-    if year % 400 == 0 {
-        return true;
-    }
-    if year % 100 == 0 {
-        return false;
-    }
-    year % 4 == 0
+    (year % 4 == 0) & ((year % 100 != 0) | (year % 400 == 0))
 }
 
 fn month_length(year: u32, month: u32) -> u32
     ensures { λ r. ⌜ r ≡ monthLength year month ⌝ }
 {
-    match month {
-        2 => { if is_leap(year) { 29 } else { 28 } }
-        4 | 6 | 9 | 11 => 30,
-        _ => 31,
+    if month == 2 {
+        if is_leap(year) {
+            return 29;
+        }
+        return 28;
     }
+    if (month == 4) | ((month == 6) | ((month == 9) | (month == 11))) {
+        return 30;
+    }
+    31
 }
 
 // The day on which a month begins, months counted from January 2000 as 0.
@@ -66,50 +65,39 @@ fn month_start(i: u32) -> u32
     base - 2
 }
 
+fn is_real(year: u32, month: u32, day: u32) -> bool
+    ensures { λ r. ⌜ r ≡ real year month day ⌝ }
+{
+    let last = month_length(year, month);
+    (2000 <= year)
+        & ((year <= 2099) & ((1 <= month) & ((month <= 12) & ((1 <= day) & (day <= last)))))
+}
+
 // The day of a real Gregorian date of 2000 to 2099.
 pub fn day_of(year: u32, month: u32, day: u32) -> Dated
     ensures { λ r. ⌜ paperDay r ≡ dayOf year month day ⌝ }
 {
-    if year < 2000 {
-        return Dated::NoSuchDate;
+    if is_real(year, month, day) {
+        Dated::Day(month_start(12 * (year - 2000) + (month - 1)) + (day - 1))
+    } else {
+        Dated::NoSuchDate
     }
-    if 2099 < year {
-        return Dated::NoSuchDate;
-    }
-    if month < 1 {
-        return Dated::NoSuchDate;
-    }
-    if 12 < month {
-        return Dated::NoSuchDate;
-    }
-    if day < 1 {
-        return Dated::NoSuchDate;
-    }
-    if month_length(year, month) < day {
-        return Dated::NoSuchDate;
-    }
-    Dated::Day(month_start(12 * (year - 2000) + (month - 1)) + (day - 1))
 }
 
 // Whether a day is one of 2000-01-01 to 2099-12-31.
 pub fn good_day(day: u32) -> bool
     ensures { λ r. ⌜ r ≡ goodDay day ⌝ }
 {
-    if day < 51544 { false } else { day <= 88068 }
+    (51544 <= day) & (day <= 88068)
 }
 
 // Whether a timeline is a time of day, hhmm, by tens of minutes.
 pub fn good_timeline(timeline: u16) -> bool
     ensures { λ r. ⌜ r ≡ goodTimeline timeline ⌝ }
 {
-    if 23 < timeline / 100 {
-        return false;
-    }
-    let minute = timeline % 100;
-    match minute {
-        0 | 10 | 20 | 30 | 40 | 50 => true,
-        _ => false,
-    }
+    let mm = timeline % 100;
+    (timeline / 100 <= 23)
+        & ((mm == 0) | ((mm == 10) | ((mm == 20) | ((mm == 30) | ((mm == 40) | (mm == 50))))))
 }
 
 fn slot_at(day: u32, timeline: u16) -> u64

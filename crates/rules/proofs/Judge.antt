@@ -6,7 +6,7 @@ use mathlib.Core.Logic.{_↔_}
 use mathlib.Core.Bool.{Bool, true, false}
 use Prim.Native.Nat.{ℕ}
 use native.Mathlib.Omega.{arith}
-use Rattle.rules.specs.Rules.{Row, test, Turned, checked, judge, Ruling, fine, refused}
+use Rattle.rules.specs.Rules.{Row, test, Turned, checked, judge, tables, Ruling, fine, refused}
 
 pub judge-append : (v : Ruling) (xs ys : List Row) → judge v (xs ++ ys) ≡ judge (judge v xs) ys
 judge-append v [] ys = refl
@@ -48,3 +48,13 @@ pub data Judged : Ruling → List Row → Ruling → Type 0 where
 pub judged : {v r : Ruling} {rs : List Row} → Judged v rs r → r ≡ judge v rs
 judged none = refl
 judged (also e f j) = judged j ∙ rw (e, f)
+
+-- a run of tables, from v to r
+pub data Tried : Ruling → List (List Row) → Ruling → Type 0 where
+  last : {v : Ruling} → Tried v [] v
+  table : {v m r : Ruling} {t : List Row} {ts : List (List Row)} → m ≡ judge v t → Tried m ts r → Tried v (t ∷ ts) r
+
+pub tried : {v r : Ruling} {ts : List (List Row)} → Tried v ts r → r ≡ judge v (tables ts)
+unfolding tables
+tried last = refl
+tried (table {v = v} {t = t} {ts = ts} e j) = tried j ∙ rw (e, ← judge-append v t (tables ts))

@@ -1,6 +1,6 @@
 -- Refusals in the paper's own numbers, and tables of checks: the first that fails answers.
 use Prim.Native.Nat.{ℕ}
-use mathlib.Core.List.{List, [], _∷_}
+use mathlib.Core.List.{List, [], _∷_, _++_}
 use mathlib.Core.Bool.{Bool, true, false}
 use Rattle.rules.specs.declared.Why.{Why}
 use Rattle.rules.specs.declared.Why.the-variants.{Short, Number, Order, Length, Fixed, Packed, Field, HeaderSum, DataSum, Name, Cut, Tail, Slate, Strip, OtherShot, Already, Room}
@@ -61,6 +61,11 @@ checked fine false t = refused t
 abbrev pub judge : Ruling → List Row → Ruling
 judge v [] = v
 judge v (test ok t ∷ rs) = judge (checked v ok t) rs
+
+-- tables one after the other
+unfoldable pub tables : List (List Row) → List Row
+tables [] = []
+tables (t ∷ ts) = t ++ tables ts
 
 -- what a function answers in the paper's words: a value, or a refusal
 pub data Reply (A : Type 0) : Type 0 where

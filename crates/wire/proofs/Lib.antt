@@ -2,4 +2,5 @@
 pub mod Spans
 pub mod Numbers
 pub mod Stores
+pub mod Here
 pub mod Equal

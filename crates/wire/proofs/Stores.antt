@@ -1,13 +1,13 @@
 -- Laws of stores: what is past the end is left out, a run of stores is one, and what was stored reads back.
 -- Assumes nothing.
-use mathlib.Core.Path.{_≡_, refl, sym, _∙_}
+use mathlib.Core.Path.{_≡_, refl, sym, ap, _∙_}
 use mathlib.Core.List.{List, [], _∷_, _++_, append-assoc}
 use Prim.Native.Nat.{ℕ, zero, suc, _+_, _-_, _^_, _≤_, _<_, min}
-use native.Mathlib.Nat.{add-zero}
+use native.Mathlib.Nat.{add-zero, zero-add}
 use native.Mathlib.Numerals.{add-one}
 use native.Mathlib.Omega.{arith}
 use lib.ListN.{length, getD, take, drop, set, length-append, length-set}
-use lib.Seq.{sets, set-out, take-suc, length-take-le, sets-eq}
+use lib.Seq.{sets, set-out, take-suc, length-take-le, sets-eq, length-sets}
 use Rattle.wire.specs.Wire.{span, num, digits, store, join, Stored}
 use Rattle.wire.proofs.Spans.{span-mid}
 use Rattle.wire.proofs.Numbers.{num-digits, length-digits}
@@ -54,6 +54,15 @@ puts-is (next {l} {m} {out} {p} {ps} {at} s r) = puts-is r ∙ rw (s .is, ← s 
 -- it is one store of the pieces joined
 pub puts : {l out : List ℕ} {ps : List (List ℕ)} {at n : ℕ} (w : ℕ) → n ≡ w → Puts l at n ps out → Stored w l at (join ps) out
 puts w e r = record { long = puts-long r ∙ e; is = puts-is r }
+
+pub stored-length : {w : ℕ} {l p out : List ℕ} {at : ℕ} → Stored w l at p out → length out ≡ length l
+unfolding store
+stored-length {l = l} {p = p} {at = at} s = ap length (s .is) ∙ length-sets l at p
+
+-- what was stored at the front, and then the rest as it was
+pub front : {w : ℕ} {l p out : List ℕ} → Stored w l 0 p out → w ≤ length l → out ≡ p ++ drop w l
+unfolding store
+front {w} {l} {p} s h = s .is ∙ sets-eq p l 0 (rw (zero-add, s .long) h) ∙ rw (zero-add, s .long)
 
 -- what was stored where there was room reads back, a number in both orders and at every width
 pub reads-back : {w : ℕ} {l p out : List ℕ} {at : ℕ} → Stored w l at p out → at + w ≤ length l → span out at w ≡ p

@@ -1,0 +1,160 @@
+-- The checks of a file in the paper's order: blocks 1 to 11, each with 1, 2, 3 (block 1), 4, 1 again (blocks 8 to 10),
+-- 5, 6, 7; then 8 to 12. A row is a test, and the number and block of the refusal where it fails.
+use Prim.Native.Nat.{ℕ, _+_, _*_, _-_}
+use mathlib.Core.Bool.{not, _||_}
+use mathlib.Core.List.{List, [], _∷_}
+use lib.ListN.{length, getD}
+use lib.Dec.{leb, eqb}
+use Rattle.wire.specs.Wire.{span, num}
+use Rattle.rules.specs.Rules.{Row, row, tables}
+use Rattle.calendar.specs.Shots.{goodTimeline}
+use Rattle.format.specs.Ranges.{satelliteOf, goodArea, goodSize, goodTotal, goodNumber, goodFirst}
+use Rattle.format.specs.Bands.{goodBand, bandOf}
+use Rattle.format.specs.Names.{goodName}
+use Rattle.header.specs.declared.Block1.{Block1}
+use Rattle.header.specs.declared.Block2.{Block2}
+use Rattle.header.specs.declared.Block5.{Block5}
+use Rattle.header.specs.declared.Block7.{Block7}
+use Rattle.header.specs.Values.{orderOf, block1Of, block2Of, block5Of, block7Of}
+use Rattle.accept.specs.Places.{aOf, bOf, cOf, at9, at10, at11, headerOf, dataOf}
+
+-- 1 SHORT: n bytes remain for block k, which stands at `at`
+abbrev short : List ℕ → ℕ → ℕ → ℕ → Row
+short s k at n = row (leb n (length s - at)) 1 k
+
+-- 2 NUMBER: its first byte is k
+abbrev number : List ℕ → ℕ → ℕ → Row
+number s k at = row (eqb (getD s at 0) k) 2 k
+
+-- 4 LENGTH: the length that it states is the table's
+abbrev long : ℕ → ℕ → ℕ → Row
+long k stated n = row (eqb stated n) 4 k
+
+-- 5 FIXED: what stands there is what the table fixes
+abbrev fixed : ℕ → ℕ → ℕ → Row
+fixed k found n = row (eqb found n) 5 k
+
+-- a block of fixed length n: 2 to 7 and 11
+unfoldable pub shape : List ℕ → ℕ → ℕ → ℕ → ℕ → List Row
+shape s o k at n = short s k at n ∷ number s k at ∷ long k (num o (span s (at + 1) 2)) n ∷ []
+
+-- a block with entries, 8 to 10: `least` is its length without them, and `full` with them
+unfoldable pub entries : List ℕ → ℕ → ℕ → ℕ → ℕ → ℕ → List Row
+entries s k at stated least full = short s k at least ∷ number s k at ∷ long k stated full ∷ short s k at full ∷ []
+
+-- block 1: 3 ORDER stands before the length, and 5 is the header block count
+unfoldable pub shape1 : List ℕ → ℕ → List Row
+shape1 s o =
+    short s 1 0 282
+    ∷ number s 1 0
+    ∷ row (leb o 1) 3 1
+    ∷ long 1 (num o (span s 1 2)) 282
+    ∷ fixed 1 (num o (span s 3 2)) 11
+    ∷ []
+
+-- 7 FIELD: satellite, area and timeline
+unfoldable pub fields1 : Block1 → List Row
+fields1 v =
+    row (not (eqb (satelliteOf (v .satellite)) 0)) 7 1
+    ∷ row (goodArea (v .area)) 7 1
+    ∷ row (goodTimeline (v .timeline)) 7 1
+    ∷ []
+
+-- block 2: the bits of a count are fixed
+unfoldable pub fixed2 : List ℕ → ℕ → List Row
+fixed2 s o = fixed 2 (num o (span s 285 2)) 16 ∷ []
+
+-- 6 PACKED: compression flag 1 or 2; then 7: columns, lines, and a flag above 2
+unfoldable pub fields2 : Block2 → List Row
+fields2 v =
+    row (not (eqb (v .compression) 1 || eqb (v .compression) 2)) 6 2
+    ∷ row (goodSize (v .columns)) 7 2
+    ∷ row (goodSize (v .lines)) 7 2
+    ∷ row (leb (v .compression) 2) 7 2
+    ∷ []
+
+-- block 5: the counts of an error and of what is outside are fixed
+unfoldable pub fixed5 : List ℕ → ℕ → List Row
+fixed5 s o = fixed 5 (num o (span s 613 2)) 65535 ∷ fixed 5 (num o (span s 615 2)) 65534 ∷ []
+
+-- 7: band, and its valid bits
+unfoldable pub fields5 : Block5 → List Row
+fields5 v = row (goodBand (v .band)) 7 5 ∷ row (eqb (v .bits) (bandOf (v .band) .bits)) 7 5 ∷ []
+
+-- block 7: segment total, number, and first line, by the lines of block 2
+unfoldable pub fields7 : Block7 → ℕ → List Row
+fields7 v lines =
+    row (goodTotal (v .total)) 7 7
+    ∷ row (goodNumber (v .number) (v .total)) 7 7
+    ∷ row (goodFirst (v .first) lines) 7 7
+    ∷ []
+
+-- 8 HEADER SUM and 9 DATA SUM
+unfoldable pub sums : List ℕ → ℕ → ℕ → ℕ → List Row
+sums s o header counts = row (eqb (num o (span s 70 4)) header) 8 1 ∷ row (eqb (num o (span s 74 4)) counts) 9 1 ∷ []
+
+-- 10 NAME
+unfoldable pub names : Block1 → Block5 → Block7 → List Row
+names v w x =
+    row (goodName (v .name) (satelliteOf (v .satellite)) (v .timeline) (w .band) (v .area) (x .number) (x .total)) 10 1
+    ∷ []
+
+-- 11 CUT and 12 TAIL: what follows the header are the counts
+unfoldable pub ends : List ℕ → ℕ → ℕ → List Row
+ends s header counts = row (leb counts (length s - header)) 11 12 ∷ row (leb (length s - header) counts) 12 12 ∷ []
+
+-- every check of a file
+unfoldable pub blocks1to4 : List ℕ → ℕ → List Row
+blocks1to4 s o =
+    tables (
+    shape1 s o
+    ∷ fields1 (block1Of s o)
+    ∷ shape s o 2 282 50
+    ∷ fixed2 s o
+    ∷ fields2 (block2Of s o)
+    ∷ shape s o 3 332 127
+    ∷ shape s o 4 459 139
+    ∷ []
+    )
+
+unfoldable pub blocks5to7 : List ℕ → ℕ → List Row
+blocks5to7 s o =
+    tables (
+    shape s o 5 598 147
+    ∷ fixed5 s o
+    ∷ fields5 (block5Of s o)
+    ∷ shape s o 6 745 259
+    ∷ shape s o 7 1004 47
+    ∷ fields7 (block7Of s o) (block2Of s o .lines)
+    ∷ []
+    )
+
+-- block 10 states its length in four bytes
+unfoldable pub blocks8to11 : List ℕ → ℕ → ℕ → ℕ → ℕ → List Row
+blocks8to11 s o a b c =
+    tables (
+    entries s 8 1051 (num o (span s 1052 2)) 61 (61 + 10 * a)
+    ∷ entries s 9 (at9 a) (num o (span s (at9 a + 1) 2)) 45 (45 + 10 * b)
+    ∷ entries s 10 (at10 a b) (num o (span s (at10 a b + 1) 4)) 47 (47 + 4 * c)
+    ∷ shape s o 11 (at11 a b c) 259
+    ∷ []
+    )
+
+unfoldable pub whole : List ℕ → ℕ → ℕ → ℕ → List Row
+whole s o header counts =
+    tables (
+    sums s o header counts
+    ∷ names (block1Of s o) (block5Of s o) (block7Of s o)
+    ∷ ends s header counts
+    ∷ []
+    )
+
+unfoldable pub checks : List ℕ → List Row
+checks s =
+    tables (
+    blocks1to4 s (orderOf s)
+    ∷ blocks5to7 s (orderOf s)
+    ∷ blocks8to11 s (orderOf s) (aOf s) (bOf s) (cOf s)
+    ∷ whole s (orderOf s) (headerOf s) (dataOf s)
+    ∷ []
+    )

@@ -1,0 +1,323 @@
+// Acceptance: a byte string in, and out the file's facts or the first refusal with its number and block.
+use header::Block1;
+use header::Block2;
+use header::Block5;
+use header::Block7;
+use rules::Refusal;
+use rules::Verdict;
+use rules::Why;
+ghost use mathlib.Core.Path.{_≡_};
+ghost use Prim.Native.Nat.{_<_};
+ghost use Rattle.rules.specs.Rules.{paper, fine, judge};
+ghost use Rattle.accept.specs.Places.{aOf, bOf, cOf, headerLength, dataLength};
+ghost use Rattle.accept.specs.Checks.{shape, entries, shape1, fields1, fixed2, fields2, fixed5, fields5, fields7, sums, names, ends, blocks1to4, blocks5to7, blocks8to11, whole, checks};
+ghost use Rattle.accept.specs.Answers.{factsOf, paperAnswer, answerOf};
+
+// What an accepted file is known by.
+pub struct Facts {
+    pub order: u8,
+    // 8 or 9
+    pub satellite: u8,
+    pub day: u32,
+    pub timeline: u16,
+    pub band: u16,
+    pub bits: u16,
+    // the four letters, the first one highest
+    pub area: u32,
+    pub columns: u16,
+    pub lines: u16,
+    pub total: u8,
+    pub number: u8,
+    pub first: u16,
+    // quality flag 1
+    pub quality: u8,
+    // gain and constant as they stand, bit for bit
+    pub gain: u64,
+    pub constant: u64,
+    // the entries of blocks 8, 9 and 10
+    pub a: u16,
+    pub b: u16,
+    pub c: u16,
+    // the header's length
+    pub header: u32,
+}
+
+pub enum Answer {
+    Accepted(Facts),
+    Refused(Refusal),
+}
+
+// Each of these makes the checks of one table, in the table's order: the refusal's name stands for its number.
+fn check_shape(v: Verdict, s: &[u8], order: u8, block: u8, at: usize, n: u16) -> Verdict
+    ensures { λ r. ⌜ paper r ≡ judge (paper v) (shape (now (s .entry)) order block at n) ⌝ }
+{
+    let t = wire::rest(s, at);
+    let v = rules::check(v, (n as usize) <= t.len(), Why::Short, block);
+    let v = rules::check(v, wire::byte_at(t, 0) == block, Why::Number, block);
+    rules::check(v, wire::u16_at(t, 1, order) == n, Why::Length, block)
+}
+
+// stated: the length that the block states; least and full: its length without and with its entries.
+fn check_entries(
+    v: Verdict,
+    s: &[u8],
+    block: u8,
+    at: usize,
+    stated: usize,
+    least: usize,
+    full: usize,
+) -> Verdict
+    ensures { λ r. ⌜ paper r ≡ judge (paper v) (entries (now (s .entry)) block at stated least full) ⌝ }
+{
+    let left = wire::left(s, at);
+    let v = rules::check(v, least <= left, Why::Short, block);
+    let v = rules::check(v, wire::byte_at(s, at) == block, Why::Number, block);
+    let v = rules::check(v, stated == full, Why::Length, block);
+    rules::check(v, full <= left, Why::Short, block)
+}
+
+fn check_shape1(v: Verdict, s: &[u8], order: u8) -> Verdict
+    ensures { λ r. ⌜ paper r ≡ judge (paper v) (shape1 (now (s .entry)) order) ⌝ }
+{
+    let v = rules::check(v, 282 <= wire::left(s, 0), Why::Short, 1);
+    let v = rules::check(v, wire::byte_at(s, 0) == 1, Why::Number, 1);
+    let v = rules::check(v, order <= 1, Why::Order, 1);
+    let v = rules::check(v, wire::u16_at(s, 1, order) == 282, Why::Length, 1);
+    rules::check(v, wire::u16_at(s, 3, order) == 11, Why::Fixed, 1)
+}
+
+// The tables of values are the writer's too.
+pub fn check_fields1(v: Verdict, w: Block1) -> Verdict
+    ensures { λ r. ⌜ paper r ≡ judge (paper v) (fields1 w) ⌝ }
+{
+    let satellite = w.satellite;
+    let area = w.area;
+    let v = rules::check(v, format::satellite_of(satellite) != 0, Why::Field, 1);
+    let v = rules::check(v, format::good_area(area), Why::Field, 1);
+    rules::check(v, calendar::good_timeline(w.timeline), Why::Field, 1)
+}
+
+fn check_fixed2(v: Verdict, s: &[u8], order: u8) -> Verdict
+    ensures { λ r. ⌜ paper r ≡ judge (paper v) (fixed2 (now (s .entry)) order) ⌝ }
+{
+    rules::check(v, wire::u16_at(s, 285, order) == 16, Why::Fixed, 2)
+}
+
+pub fn check_fields2(v: Verdict, w: Block2) -> Verdict
+    ensures { λ r. ⌜ paper r ≡ judge (paper v) (fields2 w) ⌝ }
+{
+    let flag = w.compression;
+    let v = rules::check(v, !((flag == 1) | (flag == 2)), Why::Packed, 2);
+    let v = rules::check(v, format::good_size(w.columns), Why::Field, 2);
+    let v = rules::check(v, format::good_size(w.lines), Why::Field, 2);
+    rules::check(v, flag <= 2, Why::Field, 2)
+}
+
+fn check_fixed5(v: Verdict, s: &[u8], order: u8) -> Verdict
+    ensures { λ r. ⌜ paper r ≡ judge (paper v) (fixed5 (now (s .entry)) order) ⌝ }
+{
+    let v = rules::check(v, wire::u16_at(s, 613, order) == 65535, Why::Fixed, 5);
+    rules::check(v, wire::u16_at(s, 615, order) == 65534, Why::Fixed, 5)
+}
+
+pub fn check_fields5(v: Verdict, w: Block5) -> Verdict
+    ensures { λ r. ⌜ paper r ≡ judge (paper v) (fields5 w) ⌝ }
+{
+    let v = rules::check(v, format::good_band(w.band), Why::Field, 5);
+    rules::check(v, w.bits == format::band_of(w.band).bits, Why::Field, 5)
+}
+
+pub fn check_fields7(v: Verdict, w: Block7, lines: u16) -> Verdict
+    ensures { λ r. ⌜ paper r ≡ judge (paper v) (fields7 w lines) ⌝ }
+{
+    let v = rules::check(v, format::good_total(w.total), Why::Field, 7);
+    let v = rules::check(v, format::good_number(w.number, w.total), Why::Field, 7);
+    rules::check(v, format::good_first(w.first, lines), Why::Field, 7)
+}
+
+fn check_sums(v: Verdict, s: &[u8], order: u8, header: usize, counts: usize) -> Verdict
+    ensures { λ r. ⌜ paper r ≡ judge (paper v) (sums (now (s .entry)) order header counts) ⌝ }
+{
+    let v = rules::check(
+        v,
+        wire::u32_at(s, 70, order) as usize == header,
+        Why::HeaderSum,
+        1,
+    );
+    rules::check(
+        v,
+        wire::u32_at(s, 74, order) as usize == counts,
+        Why::DataSum,
+        1,
+    )
+}
+
+pub fn check_name(v: Verdict, w: Block1, x: Block5, y: Block7) -> Verdict
+    ensures { λ r. ⌜ paper r ≡ judge (paper v) (names w x y) ⌝ }
+{
+    let satellite = w.satellite;
+    let area = w.area;
+    let name = w.name;
+    let number = format::satellite_of(satellite);
+    let good = format::good_name(name, number, w.timeline, x.band, area, y.number, y.total);
+    rules::check(v, good, Why::Name, 1)
+}
+
+fn check_ends(v: Verdict, s: &[u8], header: usize, counts: usize) -> Verdict
+    ensures { λ r. ⌜ paper r ≡ judge (paper v) (ends (now (s .entry)) header counts) ⌝ }
+{
+    let left = wire::left(s, header);
+    let v = rules::check(v, counts <= left, Why::Cut, 12);
+    rules::check(v, left <= counts, Why::Tail, 12)
+}
+
+// The checks of the blocks, in their order.
+fn check_blocks1to4(v: Verdict, s: &[u8], order: u8) -> Verdict
+    ensures { λ r. ⌜ paper r ≡ judge (paper v) (blocks1to4 (now (s .entry)) order) ⌝ }
+{
+    let v = check_shape1(v, s, order);
+    let v = check_fields1(v, header::read_block1(s, order));
+    let v = check_shape(v, s, order, 2, 282, 50);
+    let v = check_fixed2(v, s, order);
+    let v = check_fields2(v, header::read_block2(s, order));
+    let v = check_shape(v, s, order, 3, 332, 127);
+    check_shape(v, s, order, 4, 459, 139)
+}
+
+fn check_blocks5to7(v: Verdict, s: &[u8], order: u8) -> Verdict
+    ensures { λ r. ⌜ paper r ≡ judge (paper v) (blocks5to7 (now (s .entry)) order) ⌝ }
+{
+    let v = check_shape(v, s, order, 5, 598, 147);
+    let v = check_fixed5(v, s, order);
+    let v = check_fields5(v, header::read_block5(s, order));
+    let v = check_shape(v, s, order, 6, 745, 259);
+    let v = check_shape(v, s, order, 7, 1004, 47);
+    let lines = header::read_block2(s, order).lines;
+    check_fields7(v, header::read_block7(s, order), lines)
+}
+
+fn check_blocks8to11(v: Verdict, s: &[u8], order: u8, a: u16, b: u16, c: u16) -> Verdict
+    ensures { λ r. ⌜ paper r ≡ judge (paper v) (blocks8to11 (now (s .entry)) order a b c) ⌝ }
+{
+    let full8 = 61 + 10 * (a as usize);
+    let full9 = 45 + 10 * (b as usize);
+    let full10 = 47 + 4 * (c as usize);
+    let at9 = 1112 + 10 * (a as usize);
+    let at10 = 1157 + 10 * (a as usize) + 10 * (b as usize);
+    let at11 = 1204 + 10 * (a as usize) + 10 * (b as usize) + 4 * (c as usize);
+    let stated8 = wire::u16_at(s, 1052, order) as usize;
+    let stated9 = wire::u16_at(s, at9 + 1, order) as usize;
+    let stated10 = wire::u32_at(s, at10 + 1, order) as usize;
+    let v = check_entries(v, s, 8, 1051, stated8, 61, full8);
+    let v = check_entries(v, s, 9, at9, stated9, 45, full9);
+    let v = check_entries(v, s, 10, at10, stated10, 47, full10);
+    check_shape(v, s, order, 11, at11, 259)
+}
+
+fn check_whole(v: Verdict, s: &[u8], order: u8, header: usize, counts: usize) -> Verdict
+    ensures { λ r. ⌜ paper r ≡ judge (paper v) (whole (now (s .entry)) order header counts) ⌝ }
+{
+    let w = header::read_block1(s, order);
+    let x = header::read_block5(s, order);
+    let y = header::read_block7(s, order);
+    let v = check_sums(v, s, order, header, counts);
+    let v = check_name(v, w, x, y);
+    check_ends(v, s, header, counts)
+}
+
+// The entries of blocks 8, 9 and 10, as a file states them.
+fn a_of(s: &[u8]) -> u16
+    ensures { λ r. ⌜ r ≡ aOf (now (s .entry)) ⌝ }
+{
+    wire::u16_at(s, 1070, wire::byte_at(s, 5))
+}
+
+fn b_of(s: &[u8]) -> u16
+    ensures { λ r. ⌜ r ≡ bOf (now (s .entry)) ⌝ }
+{
+    let a = a_of(s) as usize;
+    wire::u16_at(s, 1112 + 10 * a + 3, wire::byte_at(s, 5))
+}
+
+fn c_of(s: &[u8]) -> u16
+    ensures { λ r. ⌜ r ≡ cOf (now (s .entry)) ⌝ }
+{
+    let a = a_of(s) as usize;
+    let b = b_of(s) as usize;
+    wire::u16_at(s, 1157 + 10 * a + 10 * b + 5, wire::byte_at(s, 5))
+}
+
+// The header's length by its entries, and that of the counts.
+fn header_length(a: u16, b: u16, c: u16) -> u32
+    ensures { λ r. ⌜ r ≡ headerLength a b c ⌝ }
+{
+    1463 + 10 * (a as u32) + 10 * (b as u32) + 4 * (c as u32)
+}
+
+fn data_length(columns: u16, lines: u16) -> usize
+    ensures { λ r. ⌜ r ≡ dataLength columns lines ⌝ }
+{
+    2 * (columns as usize) * (lines as usize)
+}
+
+// Judges a file: the first check that fails answers.
+fn verdict(s: &[u8]) -> Verdict
+    ensures { λ r. ⌜ paper r ≡ judge fine (checks (now (s .entry))) ⌝ }
+{
+    let order = wire::byte_at(s, 5);
+    let a = a_of(s);
+    let b = b_of(s);
+    let c = c_of(s);
+    let sizes = header::read_block2(s, order);
+    let header = header_length(a, b, c) as usize;
+    let counts = data_length(sizes.columns, sizes.lines);
+    let v = check_blocks1to4(Verdict::Fine, s, order);
+    let v = check_blocks5to7(v, s, order);
+    let v = check_blocks8to11(v, s, order, a, b, c);
+    check_whole(v, s, order, header, counts)
+}
+
+// What a file is known by, whether it is accepted or not.
+fn facts_of(s: &[u8]) -> Facts
+    ensures { λ r. ⌜ r ≡ factsOf (now (s .entry)) ⌝ }
+{
+    let order = wire::byte_at(s, 5);
+    let w = header::read_block1(s, order);
+    let satellite = w.satellite;
+    let name = w.name;
+    let a = a_of(s);
+    let b = b_of(s);
+    let c = c_of(s);
+    Facts {
+        order,
+        satellite: format::satellite_of(satellite),
+        day: format::day_or_0(format::date_of(name)),
+        timeline: w.timeline,
+        band: wire::u16_at(s, 601, order),
+        bits: wire::u16_at(s, 611, order),
+        area: wire::u32_at(s, 38, 1),
+        columns: wire::u16_at(s, 287, order),
+        lines: wire::u16_at(s, 289, order),
+        total: wire::byte_at(s, 1007),
+        number: wire::byte_at(s, 1008),
+        first: wire::u16_at(s, 1009, order),
+        quality: w.quality1,
+        gain: wire::u64_at(s, 617, order),
+        constant: wire::u64_at(s, 625, order),
+        a,
+        b,
+        c,
+        header: header_length(a, b, c),
+    }
+}
+
+// The answer to a file.
+pub fn accept(file: &[u8]) -> Answer
+    ensures { λ r. ⌜ paperAnswer r ≡ answerOf (now (file .entry)) ⌝ }
+{
+    let v = verdict(file);
+    match v {
+        Verdict::Refused(t) => Answer::Refused(t),
+        Verdict::Fine => Answer::Accepted(facts_of(file)),
+    }
+}

@@ -1,0 +1,2 @@
+-- The laws of the proofs of `cases_values`.
+pub mod Signed

@@ -1,0 +1,63 @@
+// The marks of quality flag 1.
+use crate::text;
+use reading::Mark;
+
+const FLAGS: [u8; 12] = [
+    0x00,
+    0x80,
+    0x40,
+    0x20,
+    0x10,
+    0x08,
+    0x04,
+    0x02,
+    0x01,
+    0x55,
+    0xaa,
+    0xff,
+];
+
+// Names a mark that is lit, and answers whether one was lit up to here.
+fn tell(before: bool, m: Mark, name: &[u8]) -> bool {
+    match m {
+        Mark::No => before,
+        Mark::Yes => {
+            text::word(b" ");
+            text::word(name);
+            true
+        }
+    }
+}
+
+fn show(flag: u8) {
+    text::word(b"marks ");
+    text::byte(flag);
+    text::word(b":");
+    let m = reading::marks_of(flag);
+    let invalid = m.invalid;
+    let sun = m.sun;
+    let moon = m.moon;
+    let test = m.test;
+    let manoeuvre = m.manoeuvre;
+    let unloading = m.unloading;
+    let solar_calibration = m.solar_calibration;
+    let eclipse = m.eclipse;
+    let any = tell(false, invalid, b"invalid");
+    let any = tell(any, sun, b"sun");
+    let any = tell(any, moon, b"moon");
+    let any = tell(any, test, b"test");
+    let any = tell(any, manoeuvre, b"manoeuvre");
+    let any = tell(any, unloading, b"unloading");
+    let any = tell(any, solar_calibration, b"solar_calibration");
+    let any = tell(any, eclipse, b"eclipse");
+    if !any {
+        text::word(b" none");
+    }
+    text::word(b"\n");
+}
+
+pub fn run() {
+    for i in 0..12 {
+        show(FLAGS[i]);
+    }
+}

@@ -1,0 +1,103 @@
+// Shots: their slots, and their numbers on the film.
+use crate::text;
+use calendar::FilmFrame;
+use calendar::Slotted;
+
+// Day and timeline.
+const SHOTS: [[u32; 2]; 17] = [
+    // the paper's
+    [57210, 200],
+    // timelines, good and not
+    [57210, 0],
+    [57210, 10],
+    [57210, 50],
+    [57210, 55],
+    [57210, 60],
+    [57210, 100],
+    [57210, 2350],
+    [57210, 2360],
+    [57210, 2400],
+    [57210, 9950],
+    [57210, 65535],
+    // days, good and not
+    [51543, 0],
+    [51544, 0],
+    [88068, 2350],
+    [88069, 0],
+    [4294967295, 0],
+];
+
+// Day and timeline of the first shot, and of the shot.
+const PAIRS: [[u32; 4]; 9] = [
+    // the paper's
+    [57209, 2350, 57210, 0],
+    [57210, 0, 57209, 2350],
+    // the timeline comes round daily
+    [57210, 200, 57211, 200],
+    // the longest way, and back
+    [51544, 0, 88068, 2350],
+    [88068, 2350, 51544, 0],
+    // a day or a timeline out of range, on either side
+    [51543, 0, 57210, 0],
+    [57210, 0, 88069, 0],
+    [57210, 60, 57210, 0],
+    [57210, 0, 57210, 2400],
+];
+
+// The tables hold no timeline above 65535.
+fn timeline_of(x: u32) -> u16 {
+    (x % 65536) as u16
+}
+
+fn show_shot(day: u32, timeline: u16) {
+    text::word(b" ");
+    text::number(day as u64);
+    text::word(b" ");
+    text::number(timeline as u64);
+}
+
+fn answer_slot(s: Slotted) {
+    match s {
+        Slotted::Slot(n) => text::number(n),
+        Slotted::Refused(t) => text::refusal(t),
+    }
+}
+
+fn show_slot(row: [u32; 2]) {
+    let timeline = timeline_of(row[1]);
+    text::word(b"slot");
+    show_shot(row[0], timeline);
+    text::word(b": ");
+    answer_slot(calendar::slot(row[0], timeline));
+    text::word(b"\n");
+}
+
+pub fn run_slots() {
+    for i in 0..17 {
+        show_slot(SHOTS[i]);
+    }
+}
+
+fn answer_film(f: FilmFrame) {
+    match f {
+        FilmFrame::Number(n) => text::signed(n),
+        FilmFrame::Refused(t) => text::refusal(t),
+    }
+}
+
+fn show_film(row: [u32; 4]) {
+    let first = timeline_of(row[1]);
+    let timeline = timeline_of(row[3]);
+    text::word(b"film");
+    show_shot(row[0], first);
+    show_shot(row[2], timeline);
+    text::word(b": ");
+    answer_film(calendar::frame_number(row[0], first, row[2], timeline));
+    text::word(b"\n");
+}
+
+pub fn run_films() {
+    for i in 0..9 {
+        show_film(PAIRS[i]);
+    }
+}

@@ -1,0 +1,13 @@
+//! A second opinion on which satellite files are accepted, written from document 01 alone, and the
+//! inputs on which it is compared with the proved library.
+
+pub mod accept;
+pub mod breach;
+pub mod damage;
+pub mod make;
+pub mod mix;
+#[cfg(feature = "proved")]
+pub mod proved;
+pub mod random;
+
+pub use accept::{accept, Facts, Refusal};

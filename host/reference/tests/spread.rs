@@ -1,0 +1,16 @@
+//! The mix of inputs reaches every answer that a file can get, by the reference alone.
+
+use reference::accept;
+use reference::mix::{Plan, Tally};
+
+#[test]
+fn every_answer_comes() {
+    let plan = Plan::new(50_000);
+    let mut tally = Tally::default();
+    for number in 0..plan.cases() {
+        let case = plan.case(number);
+        tally.count(&case, &accept(&case.bytes));
+    }
+    tally.print();
+    tally.check(plan.small / 200, plan.small / 2_000);
+}
