@@ -6,7 +6,6 @@ pub mod breach;
 pub mod damage;
 pub mod make;
 pub mod mix;
-#[cfg(feature = "proved")]
 pub mod proved;
 pub mod random;
 

@@ -1,12 +1,14 @@
-//! The proved library's acceptance, called as a C program calls it, and the comparison of its
-//! answer with the reference's.
+//! The proved library's acceptance, asked over the bridge, and the comparison of its answer with the
+//! reference's.
+
+use std::io::{self, BufReader, BufWriter, Read, Write};
+use std::process::{Child, ChildStdin, ChildStdout, Command, Stdio};
 
 use crate::accept::{Facts, Refusal};
 
-#[repr(C)]
+/// What `hsd_accept` gives back. 0 is accepted; on a refusal everything but refusal and block is 0.
 #[derive(Debug)]
 pub struct HsdFile {
-    /// 0 is accepted; on a refusal everything but this and the block is 0.
     pub refusal: u8,
     pub block: u8,
     pub satellite: u8,
@@ -27,13 +29,109 @@ pub struct HsdFile {
     pub constant: f64,
 }
 
-extern "C" {
-    fn hsd_accept(file: *const u8, length: usize) -> HsdFile;
+/// The two ends of a bridge that runs: requests go in at one while answers come out at the other.
+pub struct Bridge {
+    pub requests: Requests,
+    pub answers: Answers,
 }
 
-pub fn accept(file: &[u8]) -> HsdFile {
-    // SAFETY: the pointer and the length are those of one slice, which is only read.
-    unsafe { hsd_accept(file.as_ptr(), file.len()) }
+pub struct Requests(BufWriter<ChildStdin>);
+
+pub struct Answers {
+    from: BufReader<ChildStdout>,
+    child: Child,
+}
+
+impl Bridge {
+    /// Starts the program that `HSD_BRIDGE` names, which `host/bridge/build` made.
+    pub fn start() -> Bridge {
+        let program = std::env::var_os("HSD_BRIDGE").expect("HSD_BRIDGE names the bridge");
+        let mut child = Command::new(program)
+            .stdin(Stdio::piped())
+            .stdout(Stdio::piped())
+            .spawn()
+            .expect("the bridge starts");
+        let requests = child.stdin.take().expect("it is piped");
+        let answers = child.stdout.take().expect("it is piped");
+        Bridge {
+            requests: Requests(BufWriter::with_capacity(1 << 20, requests)),
+            answers: Answers {
+                from: BufReader::with_capacity(1 << 20, answers),
+                child,
+            },
+        }
+    }
+}
+
+impl Requests {
+    pub fn ask(&mut self, file: &[u8]) -> io::Result<()> {
+        self.0.write_all(&(file.len() as u64).to_le_bytes())?;
+        self.0.write_all(file)
+    }
+
+    /// Asks how long acceptance of the file takes.
+    pub fn ask_time(&mut self, file: &[u8]) -> io::Result<()> {
+        self.0
+            .write_all(&(file.len() as u64 | 1 << 63).to_le_bytes())?;
+        self.0.write_all(file)
+    }
+
+    /// No more requests: the bridge gives its last answers and ends.
+    pub fn end(mut self) -> io::Result<()> {
+        self.0.flush()
+    }
+}
+
+impl Answers {
+    pub fn next_file(&mut self) -> io::Result<HsdFile> {
+        let mut b = [0; 48];
+        self.from.read_exact(&mut b)?;
+        Ok(HsdFile {
+            refusal: b[0],
+            block: b[1],
+            satellite: b[2],
+            quality: b[3],
+            day: four(&b, 4),
+            timeline: two(&b, 8),
+            band: two(&b, 10),
+            area: four(&b, 12),
+            columns: two(&b, 16),
+            lines: two(&b, 18),
+            number: b[20],
+            total: b[21],
+            first_line: two(&b, 22),
+            valid_bits: two(&b, 24),
+            header_length: four(&b, 28),
+            gain: double(&b, 32),
+            constant: double(&b, 40),
+        })
+    }
+
+    pub fn next_time(&mut self) -> io::Result<f64> {
+        let mut b = [0; 8];
+        self.from.read_exact(&mut b)?;
+        Ok(f64::from_le_bytes(b))
+    }
+
+    /// Whether the bridge ended well and had nothing more to say.
+    pub fn ended_well(mut self) -> bool {
+        let mut more = Vec::new();
+        self.from.read_to_end(&mut more).is_ok()
+            && more.is_empty()
+            && self.child.wait().is_ok_and(|status| status.success())
+    }
+}
+
+fn two(b: &[u8; 48], at: usize) -> u16 {
+    u16::from_le_bytes([b[at], b[at + 1]])
+}
+
+fn four(b: &[u8; 48], at: usize) -> u32 {
+    u32::from_le_bytes([b[at], b[at + 1], b[at + 2], b[at + 3]])
+}
+
+fn double(b: &[u8; 48], at: usize) -> f64 {
+    f64::from_bits(u64::from(four(b, at)) | u64::from(four(b, at + 4)) << 32)
 }
 
 /// Whether the proved answer is the one that the reference expects.

@@ -1,12 +1,14 @@
 //! How long acceptance takes, for a file of 1,479 bytes and for a segment with 6,050,000 bytes of
-//! counts, by the proved library and by the reference.
+//! counts, by the proved library and by the reference. The library is for x86-64: elsewhere it runs
+//! under an emulator, and only its own ratio means anything.
 
 use std::hint::black_box;
 use std::time::Instant;
 
+use reference::accept;
 use reference::make::{Recipe, Sample};
+use reference::proved::Bridge;
 use reference::random::Random;
-use reference::{accept, proved};
 
 fn main() {
     let mut random = Random::new(1);
@@ -19,8 +21,15 @@ fn main() {
     let big = Sample::make(&segment, &mut random).bytes;
     assert!(accept(&small).is_ok() && accept(&big).is_ok());
 
-    let proved_small = nanoseconds(|| proved::accept(black_box(&small)));
-    let proved_big = nanoseconds(|| proved::accept(black_box(&big)));
+    let Bridge {
+        mut requests,
+        mut answers,
+    } = Bridge::start();
+    requests.ask_time(&small).expect("the bridge reads");
+    requests.ask_time(&big).expect("the bridge reads");
+    requests.end().expect("the bridge reads");
+    let proved_small = answers.next_time().expect("the bridge answers");
+    let proved_big = answers.next_time().expect("the bridge answers");
     let reference_small = nanoseconds(|| accept(black_box(&small)));
     let reference_big = nanoseconds(|| accept(black_box(&big)));
 
@@ -30,12 +39,16 @@ fn main() {
     );
     print_row("proved", proved_small, proved_big);
     print_row("reference", reference_small, reference_big);
-    println!(
-        "{:<20} {:>10.2} {:>10.2}",
-        "proved/reference",
-        proved_small / reference_small,
-        proved_big / reference_big
-    );
+    if cfg!(target_arch = "x86_64") {
+        println!(
+            "{:<20} {:>10.2} {:>10.2}",
+            "proved/reference",
+            proved_small / reference_small,
+            proved_big / reference_big
+        );
+    } else {
+        println!("the proved library ran under an emulator: its times are not the machine's");
+    }
 }
 
 fn print_row(name: &str, small: f64, big: f64) {
@@ -44,9 +57,9 @@ fn print_row(name: &str, small: f64, big: f64) {
 
 /// The best of many rounds: others use the machine too, and they only ever add time.
 fn nanoseconds<T>(run: impl Fn() -> T) -> f64 {
-    let times = 2_000;
+    let times = 1_000;
     let mut best = f64::INFINITY;
-    for _ in 0..200 {
+    for _ in 0..50 {
         let began = Instant::now();
         for _ in 0..times {
             black_box(run());

@@ -1,0 +1,12 @@
+-- `refused`: the definition's zeros.
+use mathlib.Core.Path.{refl}
+use lib.Ieee.{ofBits}
+use Rattle.plugin.proofs.refused.Statement.{statement}
+use Rattle.plugin.proofs.refused.Tie as tie
+
+returns : tie.Need-returns
+unfolding ofBits
+returns c = refl
+
+pub refused-spec : {M : Type 1} → statement M
+refused-spec = tie.close (tie.spec returns)
