@@ -3,10 +3,10 @@ use mathlib.Core.Path.{refl}
 use lib.Ieee.{add, mul, ofInt}
 use Rattle.rules.specs.Rules.{checked, reply}
 use Rattle.calendar.specs.Dates.{dayOf}
-use Rattle.calendar.specs.Shots.{goodDay, goodTimeline, slotAt, shot, shots, slotOf, frameOf}
+use Rattle.calendar.specs.Shots.{slotAt, shot, shots, slotOf, frameOf}
 use Rattle.promises.specs.Cases.{All, table}
 
 -- every line of the table holds
 pub every-case : All table
-unfolding add mul ofInt dayOf goodDay goodTimeline slotAt shot shots slotOf frameOf checked reply
+unfolding add mul ofInt dayOf slotAt shot shots slotOf frameOf checked reply
 every-case = (refl, (refl, (refl, (refl, (refl, (refl, (refl, (refl, (refl, (refl, (refl, tt)))))))))))

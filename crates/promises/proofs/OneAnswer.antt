@@ -5,6 +5,7 @@ use denote.Ref.{now}
 use Rattle.promises.specs.Answers.{One}
 use Rattle.rules.proofs.Paper.{paper-one}
 use Rattle.calendar.proofs.Paper.{paperDay-one, paperSlot-one, paperFrame-one}
+use Rattle.accept.proofs.Paper.{paperAnswer-one}
 use Rattle.wire.proofs.byte_at.Reads as byte-at
 use Rattle.wire.proofs.left.Reads as left
 use Rattle.wire.proofs.rest.Reads as rest
@@ -30,6 +31,29 @@ use Rattle.reading.proofs.read.Reads as read
 use Rattle.reading.proofs.float_of.Reads as float-of
 use Rattle.reading.proofs.calibration_of.Reads as calibration-of
 use Rattle.reading.proofs.marks_of.Reads as marks-of
+use Rattle.format.proofs.satellite_of.Reads as satellite-of
+use Rattle.format.proofs.good_area.Reads as good-area
+use Rattle.format.proofs.good_size.Reads as good-size
+use Rattle.format.proofs.good_total.Reads as good-total
+use Rattle.format.proofs.good_number.Reads as good-number
+use Rattle.format.proofs.good_first.Reads as good-first
+use Rattle.format.proofs.good_band.Reads as good-band
+use Rattle.format.proofs.band_of.Reads as band-of
+use Rattle.format.proofs.date_of.Reads as date-of
+use Rattle.format.proofs.day_or_0.Reads as day-or-0
+use Rattle.format.proofs.name_for.Reads as name-for
+use Rattle.format.proofs.good_name.Reads as good-name
+use Rattle.header.proofs.read_block1.Reads as read-block1
+use Rattle.header.proofs.read_block2.Reads as read-block2
+use Rattle.header.proofs.read_block5.Reads as read-block5
+use Rattle.header.proofs.read_block7.Reads as read-block7
+use Rattle.accept.proofs.check_fields1.Reads as check-fields1
+use Rattle.accept.proofs.check_fields2.Reads as check-fields2
+use Rattle.accept.proofs.check_fields5.Reads as check-fields5
+use Rattle.accept.proofs.check_fields7.Reads as check-fields7
+use Rattle.accept.proofs.check_name.Reads as check-name
+use Rattle.accept.proofs.accept.Reads as accept
+use Rattle.plugin.proofs.hsd_accept.Reads as hsd-accept
 
 pub byte-at-one : One (λ κ x s. x) byte-at.Post
 byte-at-one κ a x y s t p q = p ∙ sym q
@@ -105,3 +129,72 @@ calibration-of-one κ a x y s t p q = p ∙ sym q
 
 pub marks-of-one : One (λ κ x s. x) marks-of.Post
 marks-of-one κ a x y s t p q = p ∙ sym q
+
+pub satellite-of-one : One (λ κ x s. x) satellite-of.Post
+satellite-of-one κ a x y s t p q = p ∙ sym q
+
+pub good-area-one : One (λ κ x s. x) good-area.Post
+good-area-one κ a x y s t p q = p ∙ sym q
+
+pub good-size-one : One (λ κ x s. x) good-size.Post
+good-size-one κ a x y s t p q = p ∙ sym q
+
+pub good-total-one : One (λ κ x s. x) good-total.Post
+good-total-one κ a x y s t p q = p ∙ sym q
+
+pub good-number-one : One (λ κ x s. x) good-number.Post
+good-number-one κ a x y s t p q = p ∙ sym q
+
+pub good-first-one : One (λ κ x s. x) good-first.Post
+good-first-one κ a x y s t p q = p ∙ sym q
+
+pub good-band-one : One (λ κ x s. x) good-band.Post
+good-band-one κ a x y s t p q = p ∙ sym q
+
+pub band-of-one : One (λ κ x s. x) band-of.Post
+band-of-one κ a x y s t p q = p ∙ sym q
+
+pub date-of-one : One (λ κ x s. x) date-of.Post
+date-of-one κ a x y s t p q = paperDay-one x y (p ∙ sym q)
+
+pub day-or-0-one : One (λ κ x s. x) day-or-0.Post
+day-or-0-one κ a x y s t p q = p ∙ sym q
+
+pub name-for-one : One (λ κ x s. x) name-for.Post
+name-for-one κ a x y s t p q = p ∙ sym q
+
+pub good-name-one : One (λ κ x s. x) good-name.Post
+good-name-one κ a x y s t p q = p ∙ sym q
+
+pub read-block1-one : One (λ κ x s. x) read-block1.Post
+read-block1-one κ a x y s t p q = p ∙ sym q
+
+pub read-block2-one : One (λ κ x s. x) read-block2.Post
+read-block2-one κ a x y s t p q = p ∙ sym q
+
+pub read-block5-one : One (λ κ x s. x) read-block5.Post
+read-block5-one κ a x y s t p q = p ∙ sym q
+
+pub read-block7-one : One (λ κ x s. x) read-block7.Post
+read-block7-one κ a x y s t p q = p ∙ sym q
+
+pub check-fields1-one : One (λ κ x s. x) check-fields1.Post
+check-fields1-one κ a x y s t p q = paper-one x y (p ∙ sym q)
+
+pub check-fields2-one : One (λ κ x s. x) check-fields2.Post
+check-fields2-one κ a x y s t p q = paper-one x y (p ∙ sym q)
+
+pub check-fields5-one : One (λ κ x s. x) check-fields5.Post
+check-fields5-one κ a x y s t p q = paper-one x y (p ∙ sym q)
+
+pub check-fields7-one : One (λ κ x s. x) check-fields7.Post
+check-fields7-one κ a x y s t p q = paper-one x y (p ∙ sym q)
+
+pub check-name-one : One (λ κ x s. x) check-name.Post
+check-name-one κ a x y s t p q = paper-one x y (p ∙ sym q)
+
+pub accept-one : One (λ κ x s. x) accept.Post
+accept-one κ a x y s t p q = paperAnswer-one x y (p ∙ sym q)
+
+pub hsd-accept-one : One (λ κ x s. x) hsd-accept.Post
+hsd-accept-one κ a x y s t p q = p ∙ sym q
