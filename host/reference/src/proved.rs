@@ -43,10 +43,11 @@ pub struct Answers {
 }
 
 impl Bridge {
-    /// Starts the program that `HSD_BRIDGE` names, which `host/bridge/build` made.
+    /// Starts the program that `host/bridge/build` made.
     pub fn start() -> Bridge {
-        let program = std::env::var_os("HSD_BRIDGE").expect("HSD_BRIDGE names the bridge");
-        let mut child = Command::new(program)
+        let root = concat!(env!("CARGO_MANIFEST_DIR"), "/../..");
+        let mut child = Command::new(format!("{root}/host/run"))
+            .arg(format!("{root}/target/host/bridge"))
             .stdin(Stdio::piped())
             .stdout(Stdio::piped())
             .spawn()
