@@ -1,0 +1,3 @@
+-- The laws, each proved once over every width.
+pub mod Digits
+pub mod Words
