@@ -6,11 +6,10 @@ use Rattle.wire.specs.Wire.{span, num}
 use Rattle.rules.specs.Rules.{paperOf, fine, judge, Reply, says, refuses, reply}
 use Rattle.format.specs.Ranges.{satelliteOf}
 use Rattle.format.specs.Names.{dateOf, dayOr0}
-use Rattle.header.specs.Values.{orderOf}
 use Rattle.accept.specs.declared.Facts.{Facts}
 use Rattle.accept.specs.declared.Answer.{Answer}
 use Rattle.accept.specs.declared.Answer.the-variants.{Accepted, Refused}
-use Rattle.accept.specs.Places.{aOf, bOf, cOf, headerOf}
+use Rattle.header.specs.Places.{orderOf, aOf, bOf, cOf, lengthOf}
 use Rattle.accept.specs.Checks.{checks}
 
 -- what a file is known by; the shot's day is the date in its name
@@ -36,7 +35,7 @@ factsOf s =
       a = aOf s;
       b = bOf s;
       c = cOf s;
-      header = headerOf s;
+      header = lengthOf s;
     }
 
 -- the paper's words for each answer

@@ -15,8 +15,8 @@ use Rattle.header.specs.declared.Block1.{Block1}
 use Rattle.header.specs.declared.Block2.{Block2}
 use Rattle.header.specs.declared.Block5.{Block5}
 use Rattle.header.specs.declared.Block7.{Block7}
-use Rattle.header.specs.Values.{orderOf, block1Of, block2Of, block5Of, block7Of}
-use Rattle.accept.specs.Places.{aOf, bOf, cOf, at9, at10, at11, headerOf, dataOf}
+use Rattle.header.specs.Places.{orderOf, aOf, bOf, cOf, at9, at10, at11, length8, length9, length10, lengthOf, dataLength}
+use Rattle.header.specs.Values.{block1Of, block2Of, block5Of, block7Of}
 
 -- 1 SHORT: n bytes remain for block k, which stands at `at`
 abbrev short : List ℕ → ℕ → ℕ → ℕ → Row
@@ -133,9 +133,9 @@ blocks5to7 s o =
 unfoldable pub blocks8to11 : List ℕ → ℕ → ℕ → ℕ → ℕ → List Row
 blocks8to11 s o a b c =
     tables (
-    entries s 8 1051 (num o (span s 1052 2)) 61 (61 + 10 * a)
-    ∷ entries s 9 (at9 a) (num o (span s (at9 a + 1) 2)) 45 (45 + 10 * b)
-    ∷ entries s 10 (at10 a b) (num o (span s (at10 a b + 1) 4)) 47 (47 + 4 * c)
+    entries s 8 1051 (num o (span s 1052 2)) 61 (length8 a)
+    ∷ entries s 9 (at9 a) (num o (span s (at9 a + 1) 2)) 45 (length9 b)
+    ∷ entries s 10 (at10 a b) (num o (span s (at10 a b + 1) 4)) 47 (length10 c)
     ∷ shape s o 11 (at11 a b c) 259
     ∷ []
     )
@@ -155,6 +155,6 @@ checks s =
     blocks1to4 s (orderOf s)
     ∷ blocks5to7 s (orderOf s)
     ∷ blocks8to11 s (orderOf s) (aOf s) (bOf s) (cOf s)
-    ∷ whole s (orderOf s) (headerOf s) (dataOf s)
+    ∷ whole s (orderOf s) (lengthOf s) (dataLength (block2Of s (orderOf s) .columns) (block2Of s (orderOf s) .lines))
     ∷ []
     )

@@ -1,4 +1,3 @@
 -- The definitions that the contracts cite.
-pub mod Places
 pub mod Checks
 pub mod Answers

@@ -9,7 +9,6 @@ use rules::Why;
 ghost use mathlib.Core.Path.{_≡_};
 ghost use Prim.Native.Nat.{_<_};
 ghost use Rattle.rules.specs.Rules.{paper, fine, judge};
-ghost use Rattle.accept.specs.Places.{aOf, bOf, cOf, headerLength, dataLength};
 ghost use Rattle.accept.specs.Checks.{shape, entries, shape1, fields1, fixed2, fields2, fixed5, fields5, fields7, sums, names, ends, blocks1to4, blocks5to7, blocks8to11, whole, checks};
 ghost use Rattle.accept.specs.Answers.{factsOf, paperAnswer, answerOf};
 
@@ -225,52 +224,17 @@ fn check_whole(v: Verdict, s: &[u8], order: u8, header: usize, counts: usize) ->
     check_ends(v, s, header, counts)
 }
 
-// The entries of blocks 8, 9 and 10, as a file states them.
-fn a_of(s: &[u8]) -> u16
-    ensures { λ r. ⌜ r ≡ aOf (now (s .entry)) ⌝ }
-{
-    wire::u16_at(s, 1070, wire::byte_at(s, 5))
-}
-
-fn b_of(s: &[u8]) -> u16
-    ensures { λ r. ⌜ r ≡ bOf (now (s .entry)) ⌝ }
-{
-    let a = a_of(s) as usize;
-    wire::u16_at(s, 1112 + 10 * a + 3, wire::byte_at(s, 5))
-}
-
-fn c_of(s: &[u8]) -> u16
-    ensures { λ r. ⌜ r ≡ cOf (now (s .entry)) ⌝ }
-{
-    let a = a_of(s) as usize;
-    let b = b_of(s) as usize;
-    wire::u16_at(s, 1157 + 10 * a + 10 * b + 5, wire::byte_at(s, 5))
-}
-
-// The header's length by its entries, and that of the counts.
-fn header_length(a: u16, b: u16, c: u16) -> u32
-    ensures { λ r. ⌜ r ≡ headerLength a b c ⌝ }
-{
-    1463 + 10 * (a as u32) + 10 * (b as u32) + 4 * (c as u32)
-}
-
-fn data_length(columns: u16, lines: u16) -> usize
-    ensures { λ r. ⌜ r ≡ dataLength columns lines ⌝ }
-{
-    2 * (columns as usize) * (lines as usize)
-}
-
 // Judges a file: the first check that fails answers.
-fn verdict(s: &[u8]) -> Verdict
+pub fn verdict(s: &[u8]) -> Verdict
     ensures { λ r. ⌜ paper r ≡ judge fine (checks (now (s .entry))) ⌝ }
 {
     let order = wire::byte_at(s, 5);
-    let a = a_of(s);
-    let b = b_of(s);
-    let c = c_of(s);
+    let a = header::a_of(s);
+    let b = header::b_of(s);
+    let c = header::c_of(s);
     let sizes = header::read_block2(s, order);
-    let header = header_length(a, b, c) as usize;
-    let counts = data_length(sizes.columns, sizes.lines);
+    let header = header::header_length(a, b, c) as usize;
+    let counts = header::data_length(sizes.columns, sizes.lines);
     let v = check_blocks1to4(Verdict::Fine, s, order);
     let v = check_blocks5to7(v, s, order);
     let v = check_blocks8to11(v, s, order, a, b, c);
@@ -285,9 +249,9 @@ fn facts_of(s: &[u8]) -> Facts
     let w = header::read_block1(s, order);
     let satellite = w.satellite;
     let name = w.name;
-    let a = a_of(s);
-    let b = b_of(s);
-    let c = c_of(s);
+    let a = header::a_of(s);
+    let b = header::b_of(s);
+    let c = header::c_of(s);
     Facts {
         order,
         satellite: format::satellite_of(satellite),
@@ -307,7 +271,7 @@ fn facts_of(s: &[u8]) -> Facts
         a,
         b,
         c,
-        header: header_length(a, b, c),
+        header: header::header_length(a, b, c),
     }
 }
 

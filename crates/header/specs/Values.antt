@@ -1,6 +1,6 @@
 -- The header's values by block, as the file s has them in the byte order o. Places are counted from the file's start:
 -- block 1 stands at 0, 2 at 282, 3 at 332, 4 at 459, 5 at 598, 6 at 745, 7 at 1,004 and 8 at 1,051.
-use Prim.Native.Nat.{ℕ}
+use Prim.Native.Nat.{ℕ, _+_, _*_}
 use mathlib.Core.List.{List}
 use lib.ListN.{getD}
 use Rattle.wire.specs.Wire.{span, num}
@@ -8,10 +8,9 @@ use Rattle.header.specs.declared.Block1.{Block1}
 use Rattle.header.specs.declared.Block2.{Block2}
 use Rattle.header.specs.declared.Block5.{Block5}
 use Rattle.header.specs.declared.Block7.{Block7}
-
--- the byte order, which rules every number in the file
-abbrev pub orderOf : List ℕ → ℕ
-orderOf s = getD s 5 0
+use Rattle.header.specs.declared.Block8.{Block8}
+use Rattle.header.specs.declared.Header.{Header}
+use Rattle.header.specs.Places.{orderOf, aOf, bOf, cOf, at9, at10, at11}
 
 unfoldable pub block1Of : List ℕ → ℕ → Block1
 block1Of s o = record {
@@ -58,3 +57,33 @@ block7Of s o = record {
   first = num o (span s 1009 2);
   spare = span s 1011 40;
 }
+
+-- a: the entries of block 8, before its spare
+unfoldable pub block8Of : List ℕ → ℕ → ℕ → Block8
+block8Of s o a = record {
+  column = num o (span s 1054 4);
+  line = num o (span s 1058 4);
+  rotation = num o (span s 1062 8);
+  spare = span s (1072 + 10 * a) 40;
+}
+
+-- every value that is not derived, but the entries
+unfoldable pub headerOf : List ℕ → Header
+headerOf s =
+    let o = orderOf s in
+    let a = aOf s in
+    let b = bOf s in
+    let c = cOf s in
+    record {
+      block1 = block1Of s o;
+      block2 = block2Of s o;
+      carried3 = span s 335 124;
+      carried4 = span s 462 136;
+      block5 = block5Of s o;
+      carried6 = span s 748 256;
+      block7 = block7Of s o;
+      block8 = block8Of s o a;
+      spare9 = span s (at9 a + 5 + 10 * b) 40;
+      spare10 = span s (at10 a b + 7 + 4 * c) 40;
+      spare11 = span s (at11 a b c + 3) 256;
+    }

@@ -1,3 +1,4 @@
 -- The promises.
 pub mod OneAnswer
 pub mod Cases
+pub mod Demand2

@@ -54,6 +54,20 @@ use Rattle.accept.proofs.check_fields7.Reads as check-fields7
 use Rattle.accept.proofs.check_name.Reads as check-name
 use Rattle.accept.proofs.accept.Reads as accept
 use Rattle.plugin.proofs.hsd_accept.Reads as hsd-accept
+use Rattle.header.proofs.a_of.Reads as a-of
+use Rattle.header.proofs.b_of.Reads as b-of
+use Rattle.header.proofs.c_of.Reads as c-of
+use Rattle.header.proofs.header_length.Reads as header-length
+use Rattle.header.proofs.data_length.Reads as data-length
+use Rattle.header.proofs.read_block8.Reads as read-block8
+use Rattle.header.proofs.read_header.Reads as read-header
+use Rattle.accept.proofs.verdict.Reads as verdict
+use Rattle.reader.proofs.read.Reads as read-header-of
+use Rattle.reader.proofs.read_shifts.Reads as read-shifts
+use Rattle.reader.proofs.read_times.Reads as read-times
+use Rattle.reader.proofs.read_errors.Reads as read-errors
+use Rattle.writer.proofs.write.Reads as write
+use Rattle.listing.proofs.line.Reads as line
 
 pub byte-at-one : One (λ κ x s. x) byte-at.Post
 byte-at-one κ a x y s t p q = p ∙ sym q
@@ -198,3 +212,56 @@ accept-one κ a x y s t p q = paperAnswer-one x y (p ∙ sym q)
 
 pub hsd-accept-one : One (λ κ x s. x) hsd-accept.Post
 hsd-accept-one κ a x y s t p q = p ∙ sym q
+
+pub a-of-one : One (λ κ x s. x) a-of.Post
+a-of-one κ a x y s t p q = p ∙ sym q
+
+pub b-of-one : One (λ κ x s. x) b-of.Post
+b-of-one κ a x y s t p q = p ∙ sym q
+
+pub c-of-one : One (λ κ x s. x) c-of.Post
+c-of-one κ a x y s t p q = p ∙ sym q
+
+pub header-length-one : One (λ κ x s. x) header-length.Post
+header-length-one κ a x y s t p q = p ∙ sym q
+
+pub data-length-one : One (λ κ x s. x) data-length.Post
+data-length-one κ a x y s t p q = p ∙ sym q
+
+pub read-block8-one : One (λ κ x s. x) read-block8.Post
+read-block8-one κ a x y s t p q = p ∙ sym q
+
+pub read-header-one : One (λ κ x s. x) read-header.Post
+read-header-one κ a x y s t p q = p ∙ sym q
+
+pub verdict-one : One (λ κ x s. x) verdict.Post
+verdict-one κ a x y s t p q = paper-one x y (p ∙ sym q)
+
+-- the verdict and the values stand side by side
+pub read-header-of-one : One (λ κ x s. x) read-header-of.Post
+read-header-of-one κ a x y s t p q = λ i. record { verdict = paper-one (x .verdict) (y .verdict) (p .says ∙ sym (q .says)) i; header = (p .is ∙ sym (q .is)) i }
+
+-- the verdict, and each lent slice afterwards
+pub read-shifts-one : One (λ κ x s. x) read-shifts.Post × (One (λ κ x s. now (s .1 .0)) read-shifts.Post × (One (λ κ x s. now (s .1 .1 .0)) read-shifts.Post × One (λ κ x s. now (s .1 .1 .1 .0)) read-shifts.Post))
+read-shifts-one = (
+  λ κ a x y s t p q. paper-one x y (p .says ∙ sym (q .says)),
+  (λ κ a x y s t p q. p .lines ∙ sym (q .lines), (λ κ a x y s t p q. p .columnShifts ∙ sym (q .columnShifts), λ κ a x y s t p q. p .lineShifts ∙ sym (q .lineShifts))),
+)
+
+pub read-times-one : One (λ κ x s. x) read-times.Post × (One (λ κ x s. now (s .1 .0)) read-times.Post × One (λ κ x s. now (s .1 .1 .0)) read-times.Post)
+read-times-one = (
+  λ κ a x y s t p q. paper-one x y (p .says ∙ sym (q .says)),
+  (λ κ a x y s t p q. p .lines ∙ sym (q .lines), λ κ a x y s t p q. p .times ∙ sym (q .times)),
+)
+
+pub read-errors-one : One (λ κ x s. x) read-errors.Post × (One (λ κ x s. now (s .1 .0)) read-errors.Post × One (λ κ x s. now (s .1 .1 .0)) read-errors.Post)
+read-errors-one = (
+  λ κ a x y s t p q. paper-one x y (p .says ∙ sym (q .says)),
+  (λ κ a x y s t p q. p .lines ∙ sym (q .lines), λ κ a x y s t p q. p .pixels ∙ sym (q .pixels)),
+)
+
+pub write-one : One (λ κ x s. x) write.Post × One (λ κ x s. now (s .0)) write.Post
+write-one = (λ κ a x y s t p q. paper-one x y (p .says ∙ sym (q .says)), λ κ a x y s t p q. p .leaves ∙ sym (q .leaves))
+
+pub line-one : One (λ κ x s. x) line.Post × One (λ κ x s. now (s .1 .0)) line.Post
+line-one = (λ κ a x y s t p q. p .long ∙ sym (q .long), λ κ a x y s t p q. p .is ∙ sym (q .is))

@@ -5,7 +5,9 @@ use mathlib.Core.List.{List, [], _∷_}
 use Prim.Native.Nat.{ℕ}
 use lib.IntN.{ℤ, pos, negsuc}
 use lib.Ieee.{Float, fin}
-use Rattle.rules.specs.Rules.{turned, Reply, says, refuses}
+use Rattle.rules.specs.Rules.{turned, Ruling, fine, refused, judge, Reply, says, refuses}
+use Rattle.header.specs.Places.{length8, length9, length10, headerLength}
+use Rattle.writer.specs.Given.{lengths8}
 use Rattle.calendar.specs.Dates.{dayOf}
 use Rattle.calendar.specs.Shots.{slotOf, frameOf}
 use Rattle.reading.specs.declared.Reading.{Reading}
@@ -13,6 +15,14 @@ use Rattle.reading.specs.declared.Reading.the-variants.{Radiance, Outside, Over
 use Rattle.reading.specs.Counts.{readingOf}
 
 pub data Case : Type 0 where
+  -- the entries of blocks 8, 9 and 10: the header's length
+  header : ℕ → ℕ → ℕ → ℕ → Case
+  -- a block with entries: its length
+  block8 : ℕ → ℕ → Case
+  block9 : ℕ → ℕ → Case
+  block10 : ℕ → ℕ → Case
+  -- so many entries of block 8: what the writer says of their number
+  written8 : ℕ → Ruling → Case
   -- a gain, a constant, valid bits and a count: its reading
   count : Float → Float → ℕ → ℕ → Reading → Case
   -- a year, month and day: its Modified Julian Day
@@ -23,6 +33,11 @@ pub data Case : Type 0 where
   film : ℕ → ℕ → ℕ → ℕ → Reply ℤ → Case
 
 abbrev pub Holds : Case → Type 0
+Holds (header a b c n) = headerLength a b c ≡ n
+Holds (block8 a n) = length8 a ≡ n
+Holds (block9 b n) = length9 b ≡ n
+Holds (block10 c n) = length10 c ≡ n
+Holds (written8 a r) = judge fine (lengths8 a a a) ≡ r
 Holds (count g k bits n r) = readingOf (record { gain = g; constant = k; bits = bits }) n ≡ r
 Holds (date y m d r) = dayOf y m d ≡ r
 Holds (slot d t r) = slotOf d t ≡ r
@@ -50,7 +65,15 @@ huge = fin false 1 (pos 1023)
 
 abbrev pub table : List Case
 table =
-    count half minusOne 11 10 (Radiance four)
+    header 0 0 0 1463
+    ∷ header 4 2 0 1523
+    ∷ block8 6547 65531
+    ∷ written8 6547 fine
+    ∷ written8 6548 (refused (turned 4 8))
+    ∷ block9 6549 65535
+    ∷ block10 65535 262187
+    ∷ header 6547 6549 65535 394563
+    ∷ count half minusOne 11 10 (Radiance four)
     ∷ count half minusOne 11 2047 (Radiance highest)
     ∷ count half minusOne 11 2048 OverRange
     ∷ count half minusOne 11 65534 Outside

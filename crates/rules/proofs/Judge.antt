@@ -58,3 +58,30 @@ pub tried : {v r : Ruling} {ts : List (List Row)} → Tried v ts r → r ≡ jud
 unfolding tables
 tried last = refl
 tried (table {v = v} {t = t} {ts = ts} e j) = tried j ∙ rw (e, ← judge-append v t (tables ts))
+
+-- of tables one after the other: every test of each holds
+abbrev pub Each : List (List Row) → Type 0
+Each [] = Unit
+Each (t ∷ ts) = Holds t × Each ts
+
+-- a chain of tests that stays flat
+pub holds : {A B : Type 0} → A → B → A × B
+holds a b = (a, b)
+
+holds-split : (xs ys : List Row) → Holds (xs ++ ys) → Holds xs × Holds ys
+holds-split [] ys h = (tt, h)
+holds-split (test ok t ∷ xs) ys h = let k = holds-split xs ys (h .1) in ((h .0, k .0), k .1)
+
+holds-join : (xs ys : List Row) → Holds xs → Holds ys → Holds (xs ++ ys)
+holds-join [] ys h k = k
+holds-join (test ok t ∷ xs) ys h k = (h .0, holds-join xs ys (h .1) k)
+
+pub each-is : (ts : List (List Row)) → Holds (tables ts) → Each ts
+unfolding tables
+each-is [] h = tt
+each-is (t ∷ ts) h = let k = holds-split t (tables ts) h in (k .0, each-is ts (k .1))
+
+pub each-of : (ts : List (List Row)) → Each ts → Holds (tables ts)
+unfolding tables
+each-of [] h = tt
+each-of (t ∷ ts) h = holds-join t (tables ts) (h .0) (each-of ts (h .1))

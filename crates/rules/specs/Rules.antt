@@ -76,3 +76,8 @@ pub data Reply (A : Type 0) : Type 0 where
 unfoldable pub reply : {A : Type 0} → Ruling → A → Reply A
 reply fine a = says a
 reply (refused t) a = refuses t
+
+-- what stands after a ruling: the new where nothing is wrong, and else the old
+unfoldable pub after : {A : Type 0} → Ruling → A → A → A
+after fine old new = new
+after (refused t) old new = old

@@ -2,5 +2,7 @@
 pub mod Spans
 pub mod Numbers
 pub mod Stores
+pub mod Rows
+pub mod Pieces
 pub mod Here
 pub mod Equal

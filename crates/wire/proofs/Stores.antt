@@ -1,6 +1,6 @@
 -- Laws of stores: what is past the end is left out, a run of stores is one, and what was stored reads back.
 -- Assumes nothing.
-use mathlib.Core.Path.{_≡_, refl, sym, ap, _∙_}
+use mathlib.Core.Path.{_≡_, refl, sym, ap, _∙_, subst⁻¹}
 use mathlib.Core.List.{List, [], _∷_, _++_, append-assoc}
 use Prim.Native.Nat.{ℕ, zero, suc, _+_, _-_, _^_, _≤_, _<_, min}
 use native.Mathlib.Nat.{add-zero, zero-add}
@@ -17,6 +17,10 @@ sets-append l i [] ys = rw add-zero
 sets-append l i (x ∷ xs) ys =
     let e : i + suc (length xs) ≡ suc i + length xs = omega arith in
     rw (e, ← sets-append (set l i x) (suc i) xs ys)
+
+pub store-append : (l : List ℕ) (at w : ℕ) (p q : List ℕ) → length p ≡ w → store l at (p ++ q) ≡ store (store l at p) (at + w) q
+unfolding store
+store-append l at w p q e = rw (← e, sets-append)
 
 sets-out : (l : List ℕ) (i : ℕ) (xs : List ℕ) → length l ≤ i → sets l i xs ≡ l
 sets-out l i [] h = refl
@@ -50,6 +54,10 @@ puts-is : {l out : List ℕ} {ps : List (List ℕ)} {at n : ℕ} → Puts l at n
 unfolding store join
 puts-is done = refl
 puts-is (next {l} {m} {out} {p} {ps} {at} s r) = puts-is r ∙ rw (s .is, ← s .long, ← sets-append l at p (join ps))
+
+-- the same, where the next place is written another way
+pub next-at : {l m out p : List ℕ} {ps : List (List ℕ)} {at w n : ℕ} (to : ℕ) → at + w ≡ to → Stored w l at p m → Puts m to n ps out → Puts l at (w + n) (p ∷ ps) out
+next-at {m = m} {out = out} {ps = ps} {n = n} to e s r = next s (subst⁻¹ (λ (k : ℕ). Puts m k n ps out) e r)
 
 -- it is one store of the pieces joined
 pub puts : {l out : List ℕ} {ps : List (List ℕ)} {at n : ℕ} (w : ℕ) → n ≡ w → Puts l at n ps out → Stored w l at (join ps) out

@@ -46,6 +46,16 @@ unfoldable pub join : List (List ℕ) → List ℕ
 join [] = []
 join (p ∷ ps) = p ++ join ps
 
+-- the rows 0 to n - 1 one after the other
+unfoldable pub rows : (ℕ → List ℕ) → ℕ → List ℕ
+rows f zero = []
+rows f (suc n) = rows f n ++ f n
+
+-- the numbers f 0 to f (n - 1)
+unfoldable pub tab : (ℕ → ℕ) → ℕ → List ℕ
+tab f zero = []
+tab f (suc n) = tab f n ++ (f n ∷ [])
+
 -- l with bs stored from at on; what would stand past the end is left out
 unfoldable pub store : List ℕ → ℕ → List ℕ → List ℕ
 store l at bs = sets l at bs

@@ -8,7 +8,7 @@ use Rattle.format.specs.Ranges.{satelliteOf}
 use Rattle.format.specs.Names.{dateOf, dayOr0}
 use Rattle.header.specs.declared.Block1.{Block1}
 use Rattle.header.specs.Values.{block1Of}
-use Rattle.accept.specs.Places.{headerOf}
+use Rattle.header.specs.Places.{lengthOf}
 use Rattle.accept.specs.Answers.{factsOf}
 use borrow.Author.Needs.{needs}
 use Rattle.accept.proofs.facts_of.Statement.{statement}
@@ -45,7 +45,7 @@ returns c =
     let s = now (sharedsliceknown .before .args .s) in
     let o = byteat .byte-at .ensures in
     let w = readblock1 .read-block1 .ensures in
-    let h : c .header-length .result ≡ headerOf s = c .header-length .ensures ∙ rw (aof .a-of .ensures, bof .b-of .ensures, cof .c-of .ensures) in
+    let h : c .header-length .result ≡ lengthOf s = c .header-length .ensures ∙ rw (aof .a-of .ensures, bof .b-of .ensures, cof .c-of .ensures) in
     λ i. record {
       order = o i;
       satellite = (satelliteof .satellite-of .ensures ∙ ap (λ (v : Block1). satelliteOf (v .satellite)) w) i;

@@ -1,0 +1,105 @@
+-- `read_errors`: the verdict, case by case; where there is room, the columns are the file's.
+use mathlib.Core.Path.{_≡_, sym, ap, _∙_}
+use mathlib.Core.List.{List}
+use Prim.Native.Nat.{ℕ, _+_, _*_}
+use native.Mathlib.Omega.{arith}
+use lib.ListN.{length}
+use denote.Ref.{now}
+use borrow.Author.Tests.{leb-true}
+use borrow.Author.Needs.{needs}
+use Rattle.rules.specs.Rules.{Row, Ruling, fine, paper}
+use Rattle.header.specs.Places.{aOf, bOf, cOf, at10}
+use Rattle.header.specs.Entries.{entriesOf}
+use Rattle.reader.specs.Reads.{rooms2, ruled}
+use Rattle.reader.proofs.Filled.{ruling, roomy, kept, column-in}
+use Rattle.reader.proofs.read_errors.Statement.{statement}
+use Rattle.reader.proofs.read_errors.Tie as tie
+
+abbrev start : tie.After-check-rooms2 → tie.Start
+start k = k .before .before .before .before .before .before .before .before .before
+
+abbrev bytes : tie.After-check-rooms2 → List ℕ
+bytes k = now (start k .args .file)
+
+abbrev sizes : tie.After-check-rooms2 → ℕ → List Row
+sizes k n = rooms2 n (length (now (start k .args .lines))) (length (now (start k .args .pixels)))
+
+-- the ruling on a call, as its definition has it
+abbrev asked : tie.After-check-rooms2 → Ruling
+asked k = ruled (bytes k) (sizes k (cOf (bytes k)))
+
+told : (k : tie.After-check-rooms2) → paper (k .check-rooms2 .result) ≡ asked k
+told k = ruling (bytes k) (sizes k (cOf (bytes k))) (sizes k (k .before .before .c-of .result)) (k .before .verdict .ensures) (k .check-rooms2 .ensures) (ap (sizes k) (k .before .before .c-of .ensures))
+
+known : (d : tie.After-enum-told) → asked (d .before .before) ≡ fine
+unfolding paper
+known d = sym (told (d .before .before)) ∙ ap paper (d .enum-told .given .1)
+
+room16 : tie.Need-read-u16s-requires
+unfolding rooms2
+room16 c κs =
+    let k = c .before .before .before in
+    let h = roomy (bytes k) (sizes k (cOf (bytes k))) (known (c .before)) in
+    (rw (k .before .before .c-of .ensures) (leb-true _ _ (h .0)), omega arith, omega arith, omega arith)
+
+room16-2 : tie.Need-read-u16s-requires-2
+unfolding rooms2
+room16-2 c κs =
+    let d = c .before .before .before .before .before in
+    let k = d .before .before in
+    let h = roomy (bytes k) (sizes k (cOf (bytes k))) (known d) in
+    (rw (k .before .before .c-of .ensures) (leb-true _ _ (h .1 .0)), omega arith, omega arith, omega arith)
+
+returns : tie.Need-returns
+unfolding paper
+returns c =
+    let k = c .before .before .before in
+    let e = sym (told k) ∙ ap paper (c .before .v .given .1) in
+    record { says = sym e; lines = kept _ _ _ e; pixels = kept _ _ _ e }
+
+returns-2 : tie.Need-returns-2
+unfolding paper entriesOf
+returns-2 c =
+    let r = c .before .before in
+    let q = r .before .before .before .before in
+    let d = q .before .before in
+    let k = d .before .before in
+    let n = k .before .before in
+    let b = n .before in
+    let a = b .before in
+    let o = a .before .byte-at .ensures in
+    let at : (i : ℕ) → 1157 + 10 * a .a-of .result + 10 * b .b-of .result + i ≡ at10 (aOf (bytes k)) (bOf (bytes k)) + i = λ i.
+    ap (λ (x : ℕ). at10 x (b .b-of .result) + i) (a .a-of .ensures) ∙ ap (λ (y : ℕ). at10 (aOf (bytes k)) y + i) (b .b-of .ensures) in
+    record {
+      says = sym (known d);
+      lines = column-in (bytes k) (now (start k .args .lines)) 4 2 (known d) o (at 7) (n .c-of .ensures) (q .read-u16s .ensures);
+      pixels = column-in (bytes k) (now (start k .args .pixels)) 4 2 (known d) o (at 9) (n .c-of .ensures) (r .read-u16s2 .ensures);
+    }
+
+pub read-errors-spec : {M : Type 1} → statement M
+read-errors-spec =
+    tie.close
+    (tie.spec
+    (λ c κs. search needs)
+    (λ c κs. search needs)
+    (λ c. search needs)
+    (λ c κs. search needs)
+    (λ c. search needs)
+    (λ c. search needs)
+    (λ c. search needs)
+    (λ c. search needs)
+    (λ c. search needs)
+    (λ c κs. search needs)
+    (λ c. search needs)
+    (λ c κs. search needs)
+    (λ c κs. search needs)
+    (λ c. search needs)
+    (λ c. search needs)
+    (λ c. search needs)
+    room16
+    (λ c. search needs)
+    room16-2
+    returns
+    (λ c. search needs)
+    (λ c. search needs)
+    returns-2)

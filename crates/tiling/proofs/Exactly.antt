@@ -1,0 +1,217 @@
+-- Demand 2: accepted exactly when made; what is read writes back, and what is written reads back. Assumes nothing.
+use mathlib.Core.Path.{_≡_, refl, sym, ap, _∙_, subst⁻¹}
+use mathlib.Core.Logic.{_↔_}
+use mathlib.Core.List.{List, [], _∷_, _++_}
+use Prim.Native.Nat.{ℕ, zero, suc, _+_, _*_, _-_, _≤_, _<_, _^_}
+use native.Mathlib.Nat.{le-refl}
+use native.Mathlib.Omega.{arith}
+use lib.ListN.{length, getD, drop, length-drop}
+use borrow.Author.Tests.{leb-true, eqb-true, le-leb, eq-eqb}
+use Rattle.wire.specs.Wire.{Bytes, span, num, tab}
+use Rattle.wire.proofs.Spans.{length-span}
+use Rattle.wire.proofs.Rows.{tab-lt}
+use Rattle.wire.proofs.Pieces.{num-span-lt}
+use Rattle.rules.specs.Rules.{judge, Ruling, fine, refused, Reply, says, refuses, reply}
+use Rattle.rules.proofs.Judge.{Holds, holds, exactly, each-is, each-of}
+use Rattle.header.specs.declared.Header.{Header}
+use Rattle.header.specs.Places.{orderOf, aOf, bOf, cOf, at9, at10, at11, headerLength, lengthOf, dataLength}
+use Rattle.header.specs.Values.{block1Of, block2Of, block5Of, block7Of, block8Of, headerOf}
+use Rattle.header.specs.Encode.{Entries, encode}
+use Rattle.header.specs.Entries.{column, entriesOf}
+use Rattle.accept.specs.declared.Facts.{Facts}
+use Rattle.accept.specs.Checks.{checks}
+use Rattle.accept.specs.Answers.{factsOf, answerOf}
+use Rattle.writer.specs.Given.{orders, lengths8, lengths9, lengths10, room, given, ruled}
+use Rattle.tiling.specs.Made.{Run, Numbers, Fit, Made, IsAccepted}
+use Rattle.tiling.proofs.Tables.{Accepted, accepted, accepting, dataOf}
+use Rattle.tiling.proofs.Back as back
+use Rattle.tiling.proofs.Forth as forth
+use Rattle.tiling.proofs.Forth.{Good}
+
+-- what the writer takes is good, and what is good, with room, it takes
+pub good-is : (v : Header) (e : Entries) (n : ℕ) → ruled v e n ≡ fine → Good v e
+unfolding given orders lengths8 lengths9 lengths10
+good-is v e n r =
+    let h = each-is _ (exactly (given v e n) .0 r) in
+    let l8 = h .1 .1 .1 .1 .1 .0 in
+    let l9 = h .1 .1 .1 .1 .1 .1 .0 in
+    let l10 = h .1 .1 .1 .1 .1 .1 .1 .0 in
+    record {
+      order = leb-true _ _ (h .0 .0);
+      fields1 = h .1 .0;
+      fields2 = h .1 .1 .0;
+      fields5 = h .1 .1 .1 .0;
+      fields7 = h .1 .1 .1 .1 .0;
+      few8 = leb-true _ _ (l8 .0);
+      columnShifts = eqb-true _ _ (l8 .1 .0);
+      lineShifts = eqb-true _ _ (l8 .1 .1 .0);
+      few9 = leb-true _ _ (l9 .0);
+      times = eqb-true _ _ (l9 .1 .0);
+      few10 = leb-true _ _ (l10 .0);
+      pixels = eqb-true _ _ (l10 .1 .0);
+      names = h .1 .1 .1 .1 .1 .1 .1 .1 .0;
+    }
+
+pub good-of : (v : Header) (e : Entries) (n : ℕ) → Good v e → headerLength (length (e .lines8)) (length (e .lines9)) (length (e .lines10)) ≤ n → ruled v e n ≡ fine
+unfolding given orders lengths8 lengths9 lengths10 room
+good-of v e n g r =
+    exactly (given v e n) .1
+    (each-of _
+    (holds (holds (le-leb _ _ (g .order)) tt)
+    (holds (g .fields1)
+    (holds (g .fields2)
+    (holds (g .fields5)
+    (holds (g .fields7)
+    (holds (holds (le-leb _ _ (g .few8)) (holds (eq-eqb _ _ (g .columnShifts)) (holds (eq-eqb _ _ (g .lineShifts)) tt)))
+    (holds (holds (le-leb _ _ (g .few9)) (holds (eq-eqb _ _ (g .times)) tt))
+    (holds (holds (le-leb _ _ (g .few10)) (holds (eq-eqb _ _ (g .pixels)) tt))
+    (holds (g .names)
+    (holds (holds (le-leb _ _ r) tt) tt)))))))))))
+
+bytes-span : (s : List ℕ) → Bytes s → (at n : ℕ) → Bytes (span s at n)
+unfolding span
+bytes-span s b at zero i = omega arith
+bytes-span s b at (suc n) zero = b at
+bytes-span s b at (suc n) (suc i) = bytes-span s b (at + 1) n i
+
+-- an accepted file's values and entries are good, and fit their types
+module _ (s : List ℕ) (b : Bytes s) where
+  abbrev o : ℕ
+  o = orderOf s
+
+  run : (at n : ℕ) → Run n (span s at n)
+  run at n = record { long = length-span s at n; bytes = bytes-span s b at n }
+
+  number : (at w : ℕ) → num o (span s at w) < 256 ^ w
+  number at w = num-span-lt s o at w b
+
+  numbers : (at stride w n : ℕ) → Numbers w (column s o at stride w n)
+  unfolding column
+  numbers at stride w n = tab-lt _ n (256 ^ w) (λ i. num-span-lt s o (at + stride * i) w b)
+
+  pub fit : Fit (headerOf s) (entriesOf s)
+  unfolding headerOf entriesOf block1Of block2Of block5Of block7Of block8Of
+  fit = record {
+    block1 = record {
+      order = b 5;
+      satellite = run 6 16;
+      centre = run 22 16;
+      area = run 38 4;
+      other = run 42 2;
+      timeline = number 44 2;
+      started = number 46 8;
+      ended = number 54 8;
+      created = number 62 8;
+      quality1 = b 78;
+      quality2 = b 79;
+      quality3 = b 80;
+      quality4 = b 81;
+      version = run 82 32;
+      name = run 114 128;
+      spare = run 242 40;
+    };
+    block2 = record { columns = number 287 2; lines = number 289 2; compression = b 291; spare = run 292 40 };
+    carried3 = run 335 124;
+    carried4 = run 462 136;
+    block5 = record {
+      band = number 601 2;
+      wavelength = number 603 8;
+      bits = number 611 2;
+      gain = number 617 8;
+      constant = number 625 8;
+      carried = run 633 112;
+    };
+    carried6 = run 748 256;
+    block7 = record { total = b 1007; number = b 1008; first = number 1009 2; spare = run 1011 40 };
+    block8 = record { column = number 1054 4; line = number 1058 4; rotation = number 1062 8; spare = run _ 40 };
+    spare9 = run _ 40;
+    spare10 = run _ 40;
+    spare11 = run _ 256;
+    lines8 = numbers _ 10 2 _;
+    columnShifts = numbers _ 10 4 _;
+    lineShifts = numbers _ 10 4 _;
+    lines9 = numbers _ 10 2 _;
+    times = numbers _ 10 8 _;
+    lines10 = numbers _ 4 2 _;
+    pixels = numbers _ 4 2 _;
+  }
+
+  pub good : Accepted s → Good (headerOf s) (entriesOf s)
+  unfolding headerOf entriesOf block1Of
+  good h = record {
+    order = h .shape1 .order;
+    fields1 = h .fields1;
+    fields2 = h .fields2;
+    fields5 = h .fields5;
+    fields7 = h .fields7;
+    few8 = rw (back.long s o 1072 10 2 (aOf s)) (omega (arith, h .block8 .size, number 1052 2));
+    columnShifts = back.long s o 1074 10 4 (aOf s) ∙ sym (back.long s o 1072 10 2 (aOf s));
+    lineShifts = back.long s o 1078 10 4 (aOf s) ∙ sym (back.long s o 1072 10 2 (aOf s));
+    few9 = rw (back.long s o (at9 (aOf s) + 5) 10 2 (bOf s)) (omega (arith, h .block9 .size, number (at9 (aOf s) + 1) 2));
+    times = back.long s o (at9 (aOf s) + 7) 10 8 (bOf s) ∙ sym (back.long s o (at9 (aOf s) + 5) 10 2 (bOf s));
+    few10 = rw (back.long s o (at10 (aOf s) (bOf s) + 7) 4 2 (cOf s)) (omega (arith, number (at10 (aOf s) (bOf s) + 5) 2));
+    pixels = back.long s o (at10 (aOf s) (bOf s) + 9) 4 2 (cOf s) ∙ sym (back.long s o (at10 (aOf s) (bOf s) + 7) 4 2 (cOf s));
+    names = h .names;
+  }
+
+  -- how long its header is, written as its entries have it
+  long-entries : headerLength (length (entriesOf s .lines8)) (length (entriesOf s .lines9)) (length (entriesOf s .lines10)) ≡ lengthOf s
+  unfolding entriesOf
+  long-entries = rw (back.long s o 1072 10 2 (aOf s), back.long s o (at9 (aOf s) + 5) 10 2 (bOf s), back.long s o (at10 (aOf s) (bOf s) + 7) 4 2 (cOf s))
+
+  counts : Accepted s → length (drop (lengthOf s) s) ≡ dataLength (headerOf s .block2 .columns) (headerOf s .block2 .lines)
+  unfolding headerOf
+  counts h = length-drop (lengthOf s) s ∙ omega (arith, back.size s h)
+
+  pub made : Accepted s → Made s
+  made h =
+      let n = forth.long-header (headerOf s) (entriesOf s) (drop (lengthOf s) s) fit (good h) (counts h) in
+      record {
+        v = headerOf s;
+        e = entriesOf s;
+        counts = drop (lengthOf s) s;
+        fit = fit;
+        good = good-of (headerOf s) (entriesOf s) _ (good h) (omega (arith, n));
+        is = sym (back.back s b h);
+        size = counts h;
+      }
+
+-- the answer is an acceptance exactly when no check fails
+is-fine : (r : Ruling) (f : Facts) → reply r f ≡ says f → r ≡ fine
+unfolding reply
+is-fine fine f e = refl
+is-fine (refused t) f e = absurd (let z : _≡_ {A = ℕ} 0 1 = cc in omega arith)
+
+accepted-fine : (s : List ℕ) → IsAccepted s → judge fine (checks s) ≡ fine
+unfolding answerOf
+accepted-fine s e = is-fine (judge fine (checks s)) (factsOf s) e
+
+fine-accepted : (s : List ℕ) → judge fine (checks s) ≡ fine → IsAccepted s
+unfolding answerOf reply
+fine-accepted s e = rw e
+
+only : (s : List ℕ) → Made s → judge fine (checks s) ≡ fine
+only s m = accepting s (subst⁻¹ Accepted (m .is) (forth.accepted-back (m .v) (m .e) (m .counts) (m .fit) (good-is (m .v) (m .e) _ (m .good)) (m .size)))
+
+pub made-accepted : (s : List ℕ) → Made s → IsAccepted s
+made-accepted s m = fine-accepted s (only s m)
+
+-- a file is accepted exactly when it is the header of good values and then its counts
+pub accepted-exactly : (s : List ℕ) → Bytes s → IsAccepted s ↔ Made s
+accepted-exactly s b = (λ e. made s b (accepted s (accepted-fine s e)), made-accepted s)
+
+-- what is read of an accepted file writes back, byte for byte, spares too
+pub writes-back : (s : List ℕ) → Bytes s → IsAccepted s → encode (headerOf s) (entriesOf s) ++ drop (lengthOf s) s ≡ s
+writes-back s b e = back.back s b (accepted s (accepted-fine s e))
+
+-- and the writer takes it
+pub takes-back : (s : List ℕ) → Bytes s → IsAccepted s → (n : ℕ) → lengthOf s ≤ n → ruled (headerOf s) (entriesOf s) n ≡ fine
+takes-back s b e n h =
+    good-of (headerOf s) (entriesOf s) n (good s b (accepted s (accepted-fine s e))) (omega (arith, long-entries s b))
+
+-- what is read of a file is what it was made of
+pub reads-back : (s : List ℕ) (m : Made s) → (headerOf s ≡ m .v) × (entriesOf s ≡ m .e)
+reads-back s m = (
+  ap headerOf (m .is) ∙ forth.header-back (m .v) (m .e) (m .counts) (m .fit) (good-is (m .v) (m .e) _ (m .good)) (m .size),
+  ap entriesOf (m .is) ∙ forth.entries-back (m .v) (m .e) (m .counts) (m .fit) (good-is (m .v) (m .e) _ (m .good)) (m .size),
+)

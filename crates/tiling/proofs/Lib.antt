@@ -1,0 +1,6 @@
+-- The theorem and its two halves.
+pub mod Tables
+pub mod Back
+pub mod Inside
+pub mod Forth
+pub mod Exactly

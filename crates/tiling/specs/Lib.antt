@@ -1,0 +1,2 @@
+-- The words of demand 2.
+pub mod Made

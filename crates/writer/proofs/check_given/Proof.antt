@@ -1,0 +1,47 @@
+-- `check_given`: its tables, one after the other.
+use Rattle.rules.specs.Rules.{paper}
+use Rattle.rules.proofs.Judge.{tried, table, last}
+use Rattle.writer.specs.Given.{given}
+use borrow.Author.Needs.{needs}
+use Rattle.writer.proofs.check_given.Statement.{statement}
+use Rattle.writer.proofs.check_given.Tie as tie
+
+returns : tie.Need-returns
+unfolding paper given
+returns c =
+    let c9 = c .before in
+    let c8 = c9 .before in
+    let c7 = c8 .before in
+    let c6 = c7 .before in
+    let c5 = c6 .before in
+    let c4 = c5 .before in
+    let c3 = c4 .before in
+    let c2 = c3 .before in
+    let c1 = c2 .before in
+    tried
+    (table (c1 .check-order .ensures)
+    (table (c2 .check-fields1 .ensures)
+    (table (c3 .check-fields2 .ensures)
+    (table (c4 .check-fields5 .ensures)
+    (table (c5 .check-fields7 .ensures)
+    (table (c6 .check-lengths8 .ensures)
+    (table (c7 .check-lengths9 .ensures)
+    (table (c8 .check-lengths10 .ensures)
+    (table (c9 .check-name .ensures)
+    (table (c .check-room .ensures) last))))))))))
+
+pub check-given-spec : {M : Type 1} → statement M
+check-given-spec =
+    tie.close
+    (tie.spec
+    (λ c κs. search needs)
+    (λ c κs. search needs)
+    (λ c κs. search needs)
+    (λ c κs. search needs)
+    (λ c κs. search needs)
+    (λ c κs. search needs)
+    (λ c κs. search needs)
+    (λ c κs. search needs)
+    (λ c κs. search needs)
+    (λ c κs. search needs)
+    returns)
