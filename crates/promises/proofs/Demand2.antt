@@ -10,14 +10,15 @@ use Rattle.wire.specs.Wire.{Bytes}
 use Rattle.rules.specs.Rules.{fine}
 use Rattle.header.specs.Places.{lengthOf}
 use Rattle.header.specs.Values.{headerOf}
-use Rattle.header.specs.Encode.{encode}
+use Rattle.header.specs.declared.Header.{Header}
+use Rattle.header.specs.Encode.{Entries, encode}
 use Rattle.header.specs.Entries.{entriesOf}
 use Rattle.accept.specs.declared.Answer.the-variants.{Accepted}
 use Rattle.accept.specs.Answers.{factsOf, paperAnswer}
 use Rattle.accept.proofs.Paper.{paperAnswer-one}
 use Rattle.accept.proofs.accept.Reads as accept
 use Rattle.writer.specs.Given.{ruled}
-use Rattle.tiling.specs.Made.{Made, IsAccepted}
+use Rattle.tiling.specs.Made.{Made, IsAccepted, Readable, Writable}
 use Rattle.tiling.proofs.Exactly as tiling
 
 -- accepted exactly when there are good values, entries and counts that make it
@@ -40,3 +41,7 @@ taken = tiling.takes-back
 -- what was written, with its counts after it, reads back as the values and entries
 pub forth : (s : List ℕ) (m : Made s) → (headerOf s ≡ m .v) × (entriesOf s ≡ m .e)
 forth = tiling.reads-back
+
+-- the writer takes exactly the values and entries that a reader could have read
+pub takes-exactly : (v : Header) (e : Entries) → Writable v e ↔ Readable v e
+takes-exactly = tiling.takes-exactly

@@ -5,7 +5,7 @@ use mathlib.Core.List.{List, [], _∷_, _++_}
 use Prim.Native.Nat.{ℕ, zero, suc, _+_, _*_, _-_, _≤_, _<_, _^_}
 use native.Mathlib.Nat.{le-refl}
 use native.Mathlib.Omega.{arith}
-use lib.ListN.{length, getD, drop, length-drop}
+use lib.ListN.{length, drop, replicate, length-drop, length-replicate}
 use borrow.Author.Tests.{leb-true, eqb-true, le-leb, eq-eqb}
 use Rattle.wire.specs.Wire.{Bytes, span, num, tab}
 use Rattle.wire.proofs.Spans.{length-span}
@@ -22,11 +22,12 @@ use Rattle.accept.specs.declared.Facts.{Facts}
 use Rattle.accept.specs.Checks.{checks}
 use Rattle.accept.specs.Answers.{factsOf, answerOf}
 use Rattle.writer.specs.Given.{orders, lengths8, lengths9, lengths10, room, given, ruled}
-use Rattle.tiling.specs.Made.{Run, Numbers, Fit, Made, IsAccepted}
+use Rattle.tiling.specs.Made.{Run, Numbers, Fit, Made, IsAccepted, Readable, Writable}
 use Rattle.tiling.proofs.Tables.{Accepted, accepted, accepting, dataOf}
 use Rattle.tiling.proofs.Back as back
 use Rattle.tiling.proofs.Forth as forth
 use Rattle.tiling.proofs.Forth.{Good}
+use Rattle.tiling.proofs.Eight.{append, of-zeros, encoded}
 
 -- what the writer takes is good, and what is good, with room, it takes
 pub good-is : (v : Header) (e : Entries) (n : ℕ) → ruled v e n ≡ fine → Good v e
@@ -215,3 +216,28 @@ reads-back s m = (
   ap headerOf (m .is) ∙ forth.header-back (m .v) (m .e) (m .counts) (m .fit) (good-is (m .v) (m .e) _ (m .good)) (m .size),
   ap entriesOf (m .is) ∙ forth.entries-back (m .v) (m .e) (m .counts) (m .fit) (good-is (m .v) (m .e) _ (m .good)) (m .size),
 )
+
+-- the writer takes exactly the values that a reader could have read
+writable-readable : (v : Header) (e : Entries) → Writable v e → Readable v e
+writable-readable v e w =
+    let n = dataLength (v .block2 .columns) (v .block2 .lines) in
+    let s = encode v e ++ replicate n 0 in
+    let m : Made s = record { v = v; e = e; counts = replicate n 0; fit = w .fit; good = w .good; is = refl; size = length-replicate n 0 } in
+    record {
+      file = s;
+      bytes = append (encode v e) (replicate n 0) (encoded v e (w .fit)) (of-zeros n);
+      accepted = made-accepted s m;
+      header = reads-back s m .0;
+      entries = reads-back s m .1;
+    }
+
+readable-writable : (v : Header) (e : Entries) → Readable v e → Writable v e
+unfolding headerOf entriesOf made
+readable-writable v e r =
+    rw (← r .header, ← r .entries) record {
+      fit = fit (r .file) (r .bytes);
+      good = made (r .file) (r .bytes) (accepted (r .file) (accepted-fine (r .file) (r .accepted))) .good;
+    }
+
+pub takes-exactly : (v : Header) (e : Entries) → Writable v e ↔ Readable v e
+takes-exactly v e = (writable-readable v e, readable-writable v e)

@@ -6,9 +6,6 @@ use Prim.Native.Nat.{ℕ, _+_, _*_, _^_, _-_, _≤_, _<_}
 use native.Mathlib.Nat.{mul-le-mul}
 use native.Mathlib.Omega.{arith}
 use lib.ListN.{length, getD, length-append}
-use lib.Dec.{leb}
-use mathlib.Core.Bool.{true, and-eq-true-iff}
-use borrow.Author.Tests.{leb-true}
 use Rattle.wire.specs.Wire.{span, num, digits, join, rows}
 use Rattle.wire.proofs.Numbers.{length-digits}
 use Rattle.wire.proofs.Rows.{length-rows, tab-is}
@@ -19,8 +16,8 @@ use Rattle.header.specs.Places.{orderOf, aOf, bOf, cOf, at9, at10, at11, header
 use Rattle.header.specs.Values.{block1Of, block2Of, block5Of, block7Of, block8Of, headerOf}
 use Rattle.header.specs.Entries.{column, entriesOf}
 use Rattle.header.specs.Encode.{Entries, bytes1, bytes2, carrying, bytes5, bytes7, entry8, entry9, entry10, bytes8, bytes9, bytes10, encode}
-use Rattle.format.specs.Ranges.{goodSize}
 use Rattle.accept.specs.Checks.{fields1, fields2, fields5, fields7, names}
+use Rattle.writer.proofs.Written.{size-most}
 use Rattle.tiling.specs.Made.{Fit, Numbers}
 use Rattle.tiling.proofs.Tables.{Accepted}
 use Rattle.tiling.proofs.Inside.{inside, row-of}
@@ -373,14 +370,11 @@ module _ (v : Header) (e : Entries) (t : List ℕ) (f : Fit v e) (g : Good v e) 
       }
 
   -- the length of the counts fits four bytes: columns and lines are at most 22,000
-  least-most : (n : ℕ) → goodSize n ≡ true → n ≤ 22000
-  least-most n h = leb-true n 22000 (and-eq-true-iff (leb 1 n) (leb n 22000) .0 h .1)
-
   few-counts : counts < 256 ^ 4
   unfolding fields2
   few-counts =
-      let p : v .block2 .columns ≤ 22000 = least-most _ (g .fields2 .1 .0) in
-      let q : v .block2 .lines ≤ 22000 = least-most _ (g .fields2 .1 .1 .0) in
+      let p : v .block2 .columns ≤ 22000 = size-most _ (g .fields2 .1 .0) in
+      let q : v .block2 .lines ≤ 22000 = size-most _ (g .fields2 .1 .1 .0) in
       let d : 2 * v .block2 .columns ≤ 44000 = omega arith in
       omega (arith, mul-le-mul d q)
 

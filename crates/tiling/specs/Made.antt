@@ -11,7 +11,9 @@ use Rattle.header.specs.declared.Block7.{Block7}
 use Rattle.header.specs.declared.Block8.{Block8}
 use Rattle.header.specs.declared.Header.{Header}
 use Rattle.header.specs.Places.{dataLength}
+use Rattle.header.specs.Values.{headerOf}
 use Rattle.header.specs.Encode.{Entries, encode}
+use Rattle.header.specs.Entries.{entriesOf}
 use Rattle.rules.specs.Rules.{fine, says}
 use Rattle.accept.specs.Answers.{factsOf, answerOf}
 use Rattle.writer.specs.Given.{ruled}
@@ -107,3 +109,16 @@ pub record Made (s : List ℕ) : Type 0 where
 -- s is accepted, with its facts
 abbrev pub IsAccepted : List ℕ → Type 0
 IsAccepted s = answerOf s ≡ says (factsOf s)
+
+-- values and entries that a reader could have read: those of some accepted file
+pub record Readable (v : Header) (e : Entries) : Type 0 where
+  pub file : List ℕ
+  pub bytes : Bytes file
+  pub accepted : IsAccepted file
+  pub header : headerOf file ≡ v
+  pub entries : entriesOf file ≡ e
+
+-- values and entries of their types that the writer takes, where there is room
+pub record Writable (v : Header) (e : Entries) : Type 0 where
+  pub fit : Fit v e
+  pub good : ruled v e (length (encode v e)) ≡ fine

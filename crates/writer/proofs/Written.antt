@@ -1,7 +1,7 @@
 -- What the checks leave where nothing is wrong, and a header that was stored in two parts.
 -- Assumes nothing.
 use mathlib.Core.Path.{_≡_, refl, sym, ap, _∙_}
-use mathlib.Core.Bool.{Bool, true, false, _&&_}
+use mathlib.Core.Bool.{true, and-eq-true-iff}
 use mathlib.Core.List.{List, [], _∷_, _++_, append-assoc}
 use Prim.Native.Nat.{ℕ, _+_, _≤_}
 use native.Mathlib.Omega.{arith}
@@ -10,11 +10,11 @@ use lib.Dec.{leb}
 use borrow.Author.Tests.{leb-true, eqb-true}
 use Rattle.wire.specs.Wire.{join, Stored}
 use Rattle.wire.proofs.Stores.{store-append, front}
-use Rattle.rules.specs.Rules.{Row, test, tables, paper, fine, after}
+use Rattle.rules.specs.Rules.{paper, fine, after}
 use Rattle.rules.specs.declared.Refusal.{Refusal}
 use Rattle.rules.specs.declared.Verdict.{Verdict}
 use Rattle.rules.specs.declared.Verdict.the-variants.{Fine, Refused}
-use Rattle.rules.proofs.Judge.{Holds, exactly}
+use Rattle.rules.proofs.Judge.{exactly, each-is}
 use Rattle.format.specs.Ranges.{goodSize}
 use Rattle.accept.specs.Checks.{fields2}
 use Rattle.header.specs.declared.Header.{Header}
@@ -23,39 +23,21 @@ use Rattle.header.specs.Encode.{Entries, encode}
 use Rattle.writer.specs.Given.{lengths8, lengths9, lengths10, room, given, ruled, Wrote}
 use Rattle.writer.specs.Sizes.{Fits}
 
-holds-split : (xs ys : List Row) → Holds (xs ++ ys) → Holds xs × Holds ys
-holds-split [] ys h = (tt, h)
-holds-split (test ok t ∷ xs) ys h = let k = holds-split xs ys (h .1) in ((h .0, k .0), k .1)
-
--- every table holds
-abbrev All : List (List Row) → Type 0
-All [] = Unit
-All (t ∷ ts) = Holds t × All ts
-
-all : (ts : List (List Row)) → Holds (tables ts) → All ts
-unfolding tables
-all [] h = tt
-all (t ∷ ts) h = let k = holds-split t (tables ts) h in (k .0, all ts (k .1))
-
-second : (a b : Bool) → (a && b) ≡ true → b ≡ true
-second true b e = e
-second false b e = absurd (let z : _≡_ {A = ℕ} 0 1 = cc in omega arith)
-
-size : (n : ℕ) → goodSize n ≡ true → n ≤ 22000
-size n e = leb-true _ _ (second (leb 1 n) (leb n 22000) e)
+pub size-most : (n : ℕ) → goodSize n ≡ true → n ≤ 22000
+size-most n e = leb-true n 22000 (and-eq-true-iff (leb 1 n) (leb n 22000) .0 e .1)
 
 -- the sizes fit, and the output has room
 pub fits : (v : Header) (e : Entries) (n : ℕ) → ruled v e n ≡ fine → Fits v e
 unfolding given fields2 lengths8 lengths9 lengths10
 fits v e n q =
-    let h = all _ (exactly (given v e n) .0 q) in
+    let h = each-is _ (exactly (given v e n) .0 q) in
     let h2 = h .1 .1 .0 in
     let h8 = h .1 .1 .1 .1 .1 .0 in
     let h9 = h .1 .1 .1 .1 .1 .1 .0 in
     let h10 = h .1 .1 .1 .1 .1 .1 .1 .0 in
     record {
-      columns = size _ (h2 .1 .0);
-      lines = size _ (h2 .1 .1 .0);
+      columns = size-most _ (h2 .1 .0);
+      lines = size-most _ (h2 .1 .1 .0);
       few8 = leb-true _ _ (h8 .0);
       xs = eqb-true _ _ (h8 .1 .0);
       ys = eqb-true _ _ (h8 .1 .1 .0);
@@ -67,7 +49,7 @@ fits v e n q =
 
 has-room : (v : Header) (e : Entries) (n : ℕ) → ruled v e n ≡ fine → headerLength (length (e .lines8)) (length (e .lines9)) (length (e .lines10)) ≤ n
 unfolding given room
-has-room v e n q = let h = all _ (exactly (given v e n) .0 q) in leb-true _ _ (h .1 .1 .1 .1 .1 .1 .1 .1 .1 .0 .0)
+has-room v e n q = let h = each-is _ (exactly (given v e n) .0 q) in leb-true _ _ (h .1 .1 .1 .1 .1 .1 .1 .1 .1 .0 .0)
 
 join-append : (ps qs : List (List ℕ)) → join (ps ++ qs) ≡ join ps ++ join qs
 unfolding join
