@@ -116,7 +116,7 @@ fn show(row: [u64; 4]) {
     text::word(b"\n");
 }
 
-pub fn run() {
+pub(crate) fn run() {
     for i in 0..44 {
         show(COUNTS[i]);
     }

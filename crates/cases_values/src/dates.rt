@@ -58,7 +58,7 @@ fn show(row: [u32; 3]) {
     text::word(b"\n");
 }
 
-pub fn run() {
+pub(crate) fn run() {
     for i in 0..24 {
         show(DATES[i]);
     }

@@ -56,7 +56,7 @@ fn show(flag: u8) {
     text::word(b"\n");
 }
 
-pub fn run() {
+pub(crate) fn run() {
     for i in 0..12 {
         show(FLAGS[i]);
     }

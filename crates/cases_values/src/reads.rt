@@ -73,7 +73,7 @@ fn show_place(s: &[u8], at: usize) {
     show_fill(s, at);
 }
 
-pub fn run_places() {
+pub(crate) fn run_places() {
     let bytes = BYTES;
     for i in 0..3 {
         show_place(&bytes, PLACES[i] as usize);
@@ -102,7 +102,7 @@ fn show_number(s: &[u8], row: [u64; 3]) {
     text::word(b"\n");
 }
 
-pub fn run_numbers() {
+pub(crate) fn run_numbers() {
     let bytes = BYTES;
     for i in 0..14 {
         show_number(&bytes, NUMBERS[i]);
@@ -119,7 +119,7 @@ fn show_piece(s: &[u8], row: [u64; 2]) {
     text::word(b"\n");
 }
 
-pub fn run_pieces() {
+pub(crate) fn run_pieces() {
     let bytes = BYTES;
     for i in 0..4 {
         show_piece(&bytes, PIECES[i]);
@@ -144,7 +144,7 @@ fn show_pair(s: &[u8], row: [u64; 4]) {
     show_same(a, b);
 }
 
-pub fn run_sames() {
+pub(crate) fn run_sames() {
     let run = RUN;
     for i in 0..4 {
         show_pair(&run, PAIRS[i]);

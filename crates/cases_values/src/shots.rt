@@ -72,7 +72,7 @@ fn show_slot(row: [u32; 2]) {
     text::word(b"\n");
 }
 
-pub fn run_slots() {
+pub(crate) fn run_slots() {
     for i in 0..17 {
         show_slot(SHOTS[i]);
     }
@@ -96,7 +96,7 @@ fn show_film(row: [u32; 4]) {
     text::word(b"\n");
 }
 
-pub fn run_films() {
+pub(crate) fn run_films() {
     for i in 0..9 {
         show_film(PAIRS[i]);
     }

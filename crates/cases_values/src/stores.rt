@@ -60,7 +60,7 @@ fn show_number(row: [u64; 4]) {
     text::word(b"\n");
 }
 
-pub fn run_numbers() {
+pub(crate) fn run_numbers() {
     for i in 0..14 {
         show_number(NUMBERS[i]);
     }
@@ -80,7 +80,7 @@ fn show_first(s: &[u8], row: [u64; 2]) {
     show_run(wire::piece(s, 0, row[0] as usize), row[1] as usize);
 }
 
-pub fn run_runs() {
+pub(crate) fn run_runs() {
     let bytes = BYTES;
     for i in 0..3 {
         show_first(&bytes, RUNS[i]);

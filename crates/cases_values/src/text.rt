@@ -2,16 +2,16 @@
 use libc::STDOUT_FILENO;
 use rules::Refusal;
 
-pub fn word(s: &[u8]) {
+pub(crate) fn word(s: &[u8]) {
     io::write_all(STDOUT_FILENO, s);
 }
 
-pub fn number(n: u64) {
+pub(crate) fn number(n: u64) {
     io::print_decimal(STDOUT_FILENO, n);
 }
 
 // A number that may be negative.
-pub fn signed(n: i64) {
+pub(crate) fn signed(n: i64) {
     if n < 0 {
         word(b"-");
         // -n itself does not fit where n is the lowest number
@@ -22,15 +22,15 @@ pub fn signed(n: i64) {
 }
 
 // A number in hexadecimal, with zeros in front.
-pub fn hex(n: u64, digits: usize) {
+pub(crate) fn hex(n: u64, digits: usize) {
     io::print_hex(STDOUT_FILENO, n, digits);
 }
 
-pub fn byte(b: u8) {
+pub(crate) fn byte(b: u8) {
     hex(b as u64, 2);
 }
 
-pub fn bytes(s: &[u8]) {
+pub(crate) fn bytes(s: &[u8]) {
     if s.len() == 0 {
         word(b"empty");
     }
@@ -40,7 +40,7 @@ pub fn bytes(s: &[u8]) {
 }
 
 // A place of a run of bytes, which ends what is asked.
-pub fn place(at: usize, s: &[u8]) {
+pub(crate) fn place(at: usize, s: &[u8]) {
     word(b" at ");
     number(at as u64);
     word(b" of ");
@@ -49,7 +49,7 @@ pub fn place(at: usize, s: &[u8]) {
 }
 
 // The paper's number of a refusal, and its block.
-pub fn refusal(t: Refusal) {
+pub(crate) fn refusal(t: Refusal) {
     let why = t.why;
     word(b"NO ");
     number(rules::number_of(why) as u64);
