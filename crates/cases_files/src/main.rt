@@ -1,0 +1,23 @@
+// Makes files, good and damaged, in both byte orders, and has each judged.
+// It writes a line for each: how the file was made, then the answer. The answers in the file stdout were worked out apart from this code.
+mod broken;
+mod change;
+mod entries;
+mod good;
+mod make;
+mod names;
+mod order;
+mod plan;
+mod set;
+mod show;
+mod text;
+
+fn main() {
+    // the longest file that the listing reads
+    let mut buf = [0u8; 65536];
+    good::run(&mut buf);
+    broken::run(&mut buf);
+    names::run(&mut buf);
+    order::run(&mut buf);
+    entries::run(&mut buf);
+}
