@@ -1,10 +1,10 @@
--- `cases_files::plan::counts`: twice the product of two numbers of two bytes is small. Assumes nothing.
+-- `cases::plan::counts`: twice the product of two numbers of two bytes is small. Assumes nothing.
 use Prim.Native.Nat.{ℕ, _≤_, _*_, _%_}
 use native.Mathlib.Nat.{mul-le-mul}
 use native.Mathlib.Omega.{arith}
 use borrow.Author.Needs.{needs}
-use Rattle.cases_files.proofs.plan.counts.Statement.{statement}
-use Rattle.cases_files.proofs.plan.counts.Tie as tie
+use Rattle.cases.proofs.plan.counts.Statement.{statement}
+use Rattle.cases.proofs.plan.counts.Tie as tie
 
 small : (x y : ℕ) → 2 * (x % 65536) * (y % 65536) ≤ 131070 * 65535
 small x y =

@@ -1,10 +1,10 @@
 use Prim.Native.Nat.{_≤_, _-_}
 use native.Mathlib.Omega.{arith}
 use borrow.Author.Needs.{needs}
-use Rattle.cases_files.proofs.text.digits.Statement.{statement}
-use Rattle.cases_files.proofs.text.digits.Tie as tie
-use Rattle.cases_files.proofs.text.digits.Reads as reads
-use Rattle.cases_files.proofs.text.digits.Lts as lts
+use Rattle.cases.proofs.text.digits.Statement.{statement}
+use Rattle.cases.proofs.text.digits.Tie as tie
+use Rattle.cases.proofs.text.digits.Reads as reads
+use Rattle.cases.proofs.text.digits.Lts as lts
 
 abbrev Inv-loop : tie.InvT-loop
 Inv-loop n d₀ n₀ i₀ d n' i = i ≤ 10

@@ -3,11 +3,11 @@ use mathlib.Core.Path.{_≡_}
 use lib.ListN.{length}
 use native.Mathlib.Omega.{arith}
 use borrow.Author.Needs.{needs}
-use Rattle.cases_files.proofs.text.name.Statement.{statement}
-use Rattle.cases_files.proofs.text.name.Tie as tie
-use Rattle.cases_files.proofs.text.name.Reads as reads
-use Rattle.cases_files.proofs.text.name.Lts as lts
-use Rattle.cases_files.proofs.text.word.Reads as word-reads
+use Rattle.cases.proofs.text.name.Statement.{statement}
+use Rattle.cases.proofs.text.name.Tie as tie
+use Rattle.cases.proofs.text.name.Reads as reads
+use Rattle.cases.proofs.text.name.Lts as lts
+use Rattle.cases.proofs.text.word.Reads as word-reads
 use Rattle.wire.proofs.piece.Reads as piece-reads
 
 abbrev Inv-loop : tie.InvT-loop

@@ -3,11 +3,11 @@ use mathlib.Core.Path.{_≡_}
 use lib.ListN.{length}
 use native.Mathlib.Omega.{arith}
 use borrow.Author.Needs.{needs}
-use Rattle.cases_files.proofs.show.table.Statement.{statement}
-use Rattle.cases_files.proofs.show.table.Tie as tie
-use Rattle.cases_files.proofs.show.table.Reads as reads
-use Rattle.cases_files.proofs.show.table.Lts as lts
-use Rattle.cases_files.proofs.show.begun.Reads as begun-reads
+use Rattle.cases.proofs.show.table.Statement.{statement}
+use Rattle.cases.proofs.show.table.Tie as tie
+use Rattle.cases.proofs.show.table.Reads as reads
+use Rattle.cases.proofs.show.table.Lts as lts
+use Rattle.cases.proofs.show.begun.Reads as begun-reads
 
 abbrev Inv-loop : tie.InvT-loop
 Inv-loop buf₀ t i₀ buf i = (length buf ≡ length buf₀) × (i ≤ length t)

@@ -3,10 +3,10 @@ use mathlib.Core.Path.{_≡_}
 use lib.ListN.{length}
 use native.Mathlib.Omega.{arith}
 use borrow.Author.Needs.{needs}
-use Rattle.cases_files.proofs.make.spread.Statement.{statement}
-use Rattle.cases_files.proofs.make.spread.Tie as tie
-use Rattle.cases_files.proofs.make.spread.Reads as reads
-use Rattle.cases_files.proofs.make.spread.Lts as lts
+use Rattle.cases.proofs.make.spread.Statement.{statement}
+use Rattle.cases.proofs.make.spread.Tie as tie
+use Rattle.cases.proofs.make.spread.Reads as reads
+use Rattle.cases.proofs.make.spread.Lts as lts
 use Rattle.wire.proofs.put_byte.Reads as put-byte-reads
 
 abbrev Inv-loop : tie.InvT-loop

@@ -3,12 +3,12 @@ use mathlib.Core.Path.{_≡_}
 use lib.ListN.{length}
 use native.Mathlib.Omega.{arith}
 use borrow.Author.Needs.{needs}
-use Rattle.cases_files.proofs.make.put_fields.Statement.{statement}
-use Rattle.cases_files.proofs.make.put_fields.Tie as tie
-use Rattle.cases_files.proofs.make.put_fields.Reads as reads
-use Rattle.cases_files.proofs.make.put_fields.Lts as lts
-use Rattle.cases_files.proofs.make.planned.Reads as planned-reads
-use Rattle.cases_files.proofs.set.apply.Reads as apply-reads
+use Rattle.cases.proofs.make.put_fields.Statement.{statement}
+use Rattle.cases.proofs.make.put_fields.Tie as tie
+use Rattle.cases.proofs.make.put_fields.Reads as reads
+use Rattle.cases.proofs.make.put_fields.Lts as lts
+use Rattle.cases.proofs.make.planned.Reads as planned-reads
+use Rattle.cases.proofs.set.apply.Reads as apply-reads
 
 abbrev Inv-loop : tie.InvT-loop
 Inv-loop out₀ p i₀ out i = (length out ≡ length out₀) × (i ≤ 51)
