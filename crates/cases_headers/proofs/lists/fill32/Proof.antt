@@ -1,0 +1,32 @@
+-- `cases_headers::lists::fill32` is safe and ends: each turn leaves fewer numbers. Assumes nothing.
+use Prim.Native.Nat.{_≤_, _-_}
+use mathlib.Core.Path.{_≡_}
+use lib.ListN.{length}
+use borrow.Author.Needs.{needs}
+use Rattle.cases_headers.proofs.lists.fill32.Statement.{statement}
+use Rattle.cases_headers.proofs.lists.fill32.Tie as tie
+
+abbrev Inv-loop : tie.InvT-loop
+Inv-loop dst₀ n seed i₀ dst i = (i ≤ n) × (n ≤ length dst₀) × (length dst ≡ length dst₀)
+
+abbrev μ-loop : tie.MeasureT-loop
+μ-loop dst₀ n seed i₀ dst i = n - i
+
+pub fill32-spec : {M : Type 1} → statement M
+fill32-spec =
+    tie.close
+    (tie.spec
+    Inv-loop
+    μ-loop
+    (λ c. search needs)
+    (λ c. search needs)
+    (λ c. search needs)
+    (λ c. search needs)
+    (λ c. search needs)
+    (λ c. search needs)
+    (λ c. search needs)
+    (λ c. search needs)
+    (λ c. search needs)
+    (λ c. search needs)
+    (λ c. search needs)
+    (λ c. search needs))

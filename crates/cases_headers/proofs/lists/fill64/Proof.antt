@@ -1,0 +1,31 @@
+-- `cases_headers::lists::fill64` is safe and ends: each turn leaves fewer numbers. Assumes nothing.
+use Prim.Native.Nat.{_≤_, _-_}
+use mathlib.Core.Path.{_≡_}
+use lib.ListN.{length}
+use borrow.Author.Needs.{needs}
+use Rattle.cases_headers.proofs.lists.fill64.Statement.{statement}
+use Rattle.cases_headers.proofs.lists.fill64.Tie as tie
+
+abbrev Inv-loop : tie.InvT-loop
+Inv-loop dst₀ n seed i₀ dst i = (i ≤ n) × (n ≤ length dst₀) × (length dst ≡ length dst₀)
+
+abbrev μ-loop : tie.MeasureT-loop
+μ-loop dst₀ n seed i₀ dst i = n - i
+
+pub fill64-spec : {M : Type 1} → statement M
+fill64-spec =
+    tie.close
+    (tie.spec
+    Inv-loop
+    μ-loop
+    (λ c. search needs)
+    (λ c. search needs)
+    (λ c. search needs)
+    (λ c. search needs)
+    (λ c. search needs)
+    (λ c. search needs)
+    (λ c. search needs)
+    (λ c. search needs)
+    (λ c. search needs)
+    (λ c. search needs)
+    (λ c. search needs))
