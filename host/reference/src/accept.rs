@@ -13,6 +13,8 @@ pub const DATA_SUM: u8 = 9;
 pub const NAME: u8 = 10;
 pub const CUT: u8 = 11;
 pub const TAIL: u8 = 12;
+/// Only the writer gives this one.
+pub const ROOM: u8 = 17;
 
 /// Why a file is turned away: the paper's number and the block shown with it.
 #[derive(Clone, Copy, Debug, PartialEq, Eq)]
@@ -207,7 +209,7 @@ pub fn accept(file: &[u8]) -> Result<Facts, Refusal> {
     })
 }
 
-fn demand(holds: bool, number: u8, block: u8) -> Result<(), Refusal> {
+pub(crate) fn demand(holds: bool, number: u8, block: u8) -> Result<(), Refusal> {
     if holds {
         Ok(())
     } else {
@@ -255,7 +257,7 @@ impl Reader<'_> {
     }
 }
 
-fn is_area(area: &[u8; 4]) -> bool {
+pub(crate) fn is_area(area: &[u8; 4]) -> bool {
     if area == b"FLDK" {
         return true;
     }
@@ -267,7 +269,7 @@ fn is_area(area: &[u8; 4]) -> bool {
     }
 }
 
-fn valid_bits_of_band(band: u64) -> u64 {
+pub(crate) fn valid_bits_of_band(band: u64) -> u64 {
     match band {
         7 => 14,
         10..=15 => 12,
@@ -284,18 +286,18 @@ fn resolution_of_band(band: u64) -> u64 {
 }
 
 /// What the header says of the shot, for the name to agree with.
-struct Shot {
-    satellite: u64,
-    timeline: u64,
-    band: u64,
-    area: [u8; 4],
-    number: u64,
-    total: u64,
+pub(crate) struct Shot {
+    pub(crate) satellite: u64,
+    pub(crate) timeline: u64,
+    pub(crate) band: u64,
+    pub(crate) area: [u8; 4],
+    pub(crate) number: u64,
+    pub(crate) total: u64,
 }
 
 /// The day of a name that keeps the whole name rule; nothing for any other name. The name is
 /// HS_aaa_yyyymmdd_hhnn_Bbb_cccc_Rjj_Skkll.DAT and 85 zero bytes.
-fn day_of_name(name: &[u8], shot: &Shot) -> Option<u64> {
+pub(crate) fn day_of_name(name: &[u8], shot: &Shot) -> Option<u64> {
     let text = |from: usize, wanted: &[u8]| &name[from..from + wanted.len()] == wanted;
     let value = |from: usize, width: usize| decimal(&name[from..from + width]);
     let agrees = text(0, b"HS_H")

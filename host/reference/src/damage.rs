@@ -34,6 +34,34 @@ pub const AIMED: [Way; 24] = [
     wrapped_count,
 ];
 
+/// The ways that change what the writer is given. Counts that wrap around are left out: reading so
+/// many entries takes long.
+pub const GIVEN: [Way; 18] = [
+    byte_order,
+    compression,
+    columns,
+    lines,
+    satellite,
+    area,
+    timeline,
+    band,
+    valid_bits,
+    segment_total,
+    segment_number,
+    first_line,
+    name_letter,
+    name_zero,
+    name_date,
+    name_part,
+    name_resolution,
+    entry_count,
+];
+
+pub fn given(sample: &mut Sample, random: &mut Random) {
+    let way = random.pick(&GIVEN);
+    way(sample, random);
+}
+
 pub fn aimed(sample: &mut Sample, random: &mut Random) {
     let way = random.pick(&AIMED);
     way(sample, random);
@@ -428,4 +456,25 @@ fn wrapped_count(sample: &mut Sample, random: &mut Random) {
     *count = new;
     sample.put(block, offset, 2, new);
     sample.put(block, 1, 2, BASE[block - 1] as u64 + entry * new);
+}
+
+/// Random bytes wherever a value is derived, the entry counts apart.
+pub fn derived(sample: &mut Sample, random: &mut Random) {
+    for block in 1..=11 {
+        let number = random.number();
+        sample.put(block, 0, 1, number);
+        let length = random.number();
+        sample.put(block, 1, length_width(block), length);
+    }
+    for (block, offset, width) in [
+        (1, 3, 2),
+        (1, 70, 4),
+        (1, 74, 4),
+        (2, 3, 2),
+        (5, 15, 2),
+        (5, 17, 2),
+    ] {
+        let value = random.number();
+        sample.put(block, offset, width, value);
+    }
 }

@@ -71,7 +71,7 @@ impl Plan {
     }
 }
 
-fn setting(name: &str, default: u64) -> u64 {
+pub(crate) fn setting(name: &str, default: u64) -> u64 {
     match std::env::var(name) {
         Ok(text) => text
             .parse()
@@ -80,7 +80,7 @@ fn setting(name: &str, default: u64) -> u64 {
     }
 }
 
-fn small_case(random: &mut Random) -> Case {
+pub(crate) fn small_case(random: &mut Random) -> Case {
     let kind = random.below(100);
     if kind < 6 {
         return noise(random);
@@ -140,7 +140,7 @@ fn noise(random: &mut Random) -> Case {
     }
 }
 
-fn large_case(random: &mut Random) -> Case {
+pub(crate) fn large_case(random: &mut Random) -> Case {
     let recipe = Recipe::large(random);
     let mut sample = Sample::make(&recipe, random);
     let kind = match random.below(4) {

@@ -1,0 +1,252 @@
+//! The images of headers that the writer is tried on, each made from a seed and its number with the
+//! answer that the reference expects, and the tally of the answers.
+
+use std::collections::BTreeMap;
+
+use crate::accept::{Refusal, FIELD, LENGTH, NAME, ORDER, PACKED, ROOM};
+use crate::damage;
+use crate::make::{Recipe, Sample, GREATEST_A, GREATEST_B, GREATEST_C};
+use crate::mix::{large_case, setting, small_case};
+use crate::random::Random;
+use crate::values::Values;
+
+pub const LONGEST_IMAGE: usize = 65_536;
+pub const GREATEST_ROOM: usize = 400_000;
+
+pub struct Images {
+    pub seed: u64,
+    pub cases: u64,
+}
+
+/// What is asked, and the reference's answer.
+pub struct Asked {
+    pub kind: &'static str,
+    pub image: Vec<u8>,
+    pub room: usize,
+    pub expected: Result<Vec<u8>, Refusal>,
+}
+
+impl Images {
+    /// Seed and number can be set from outside, to try others.
+    pub fn new(cases: u64) -> Images {
+        Images {
+            seed: setting("MIX_SEED", 20_150_707),
+            cases: setting("REWRITE_CASES", cases),
+        }
+    }
+
+    pub fn case(&self, case: u64) -> Asked {
+        let mut random = Random::of_case(self.seed, case);
+        let (kind, mut image) = any_image(&mut random);
+        image.truncate(LONGEST_IMAGE);
+        let values = Values::of_image(&image);
+        let widest = values.write(GREATEST_ROOM);
+        let room = match &widest {
+            Ok(header) => room_for(header.len(), &mut random),
+            Err(_) => room_to_waste(values.header_length() as usize, &mut random),
+        };
+        Asked {
+            kind,
+            image,
+            room,
+            // A room that is too small is all that can change the answer.
+            expected: match widest {
+                Ok(header) if room < header.len() => Err(Refusal {
+                    number: ROOM,
+                    block: 0,
+                }),
+                answer => answer,
+            },
+        }
+    }
+}
+
+fn any_image(random: &mut Random) -> (&'static str, Vec<u8>) {
+    let kind = random.below(1_000);
+    if kind < 350 {
+        let case = small_case(random);
+        return (case.kind, case.bytes);
+    }
+    if kind < 352 {
+        let case = large_case(random);
+        return (case.kind, case.bytes);
+    }
+    if kind < 357 {
+        return ("long noise", long_noise(random));
+    }
+    let mut recipe = Recipe::small(random);
+    match kind {
+        357 => {
+            // As many as can be with the count of block 10 still within the image.
+            recipe.a = random.below(6_437);
+            recipe.b = random.within(0, 6_436 - recipe.a);
+            recipe.c = random.pick(&[4_000, 20_000, GREATEST_C]);
+        }
+        358..=366 => {
+            recipe.a = random.below(600);
+            recipe.b = random.below(600);
+            recipe.c = random.below(1_500);
+        }
+        _ => {}
+    }
+    let mut sample = Sample::make(&recipe, random);
+    let kind = match kind {
+        357 => "many entries, the last ones past the end",
+        358..=366 => "some hundred entries",
+        367..=416 => {
+            damage::derived(&mut sample, random);
+            "derived values spoiled"
+        }
+        417..=436 => {
+            too_many(&mut sample, random);
+            "about too many entries"
+        }
+        437..=446 => {
+            too_many(&mut sample, random);
+            damage::given(&mut sample, random);
+            "about too many entries, and damaged"
+        }
+        447..=456 => {
+            damage::derived(&mut sample, random);
+            damage::cut(&mut sample, random);
+            "derived values spoiled, then cut"
+        }
+        457..=726 => {
+            damage::given(&mut sample, random);
+            "one given value changed"
+        }
+        _ => {
+            damage::derived(&mut sample, random);
+            damage::given(&mut sample, random);
+            damage::given(&mut sample, random);
+            "two given values changed, derived ones spoiled"
+        }
+    };
+    (kind, sample.bytes)
+}
+
+/// Random bytes up to the longest image. Small counts let some of it be read to its end.
+fn long_noise(random: &mut Random) -> Vec<u8> {
+    let mut bytes = vec![0; random.within(0, LONGEST_IMAGE as u64) as usize];
+    random.fill(&mut bytes);
+    if bytes.len() > 1_071 && random.coin() {
+        bytes[5] = random.below(3) as u8;
+        bytes[1_070] = random.below(4) as u8;
+        bytes[1_071] = random.below(4) as u8;
+    }
+    bytes
+}
+
+/// The entry count of block 8 or 9 about its greatest, or far beyond; the entries are mostly past
+/// the image's end.
+fn too_many(sample: &mut Sample, random: &mut Random) {
+    let (block, offset, greatest) = random.pick(&[(8, 19, GREATEST_A), (9, 3, GREATEST_B)]);
+    let beyond = random.within(greatest + 1, 65_535);
+    let count = match random.below(16) {
+        0 => greatest,
+        1 => 65_535,
+        2..=13 => greatest + 1,
+        _ => beyond,
+    };
+    sample.put(block, offset, 2, count);
+}
+
+/// Mostly enough, and close to the header's length.
+fn room_for(length: usize, random: &mut Random) -> usize {
+    let less = random.below(length as u64) as usize;
+    match random.below(100) {
+        0..=29 => length,
+        30..=84 => length + random.within(1, 40) as usize,
+        85..=92 => length - 1,
+        93 => 0,
+        // What would do without entries, or for a length of two bytes.
+        94..=95 => 1_463,
+        96 => length % 65_536,
+        97 => GREATEST_ROOM.min(2 * length),
+        _ => less,
+    }
+}
+
+/// A refused image needs no room. Most get little, to be quick, and some get what they ask for.
+fn room_to_waste(length: usize, random: &mut Random) -> usize {
+    match random.below(64) {
+        0 => length.min(GREATEST_ROOM),
+        1..=31 => length.min(1_600),
+        32..=40 => 1_462,
+        41..=44 => 0,
+        _ => random.below(1_600) as usize,
+    }
+}
+
+/// Every refusal that an image can lead to. Too many entries in block 10 is not one of them: their
+/// count has two bytes.
+const REFUSALS: [(u8, u8, &str); 10] = [
+    (ORDER, 1, "ORDER"),
+    (LENGTH, 8, "LENGTH"),
+    (LENGTH, 9, "LENGTH"),
+    (PACKED, 2, "PACKED"),
+    (FIELD, 1, "FIELD"),
+    (FIELD, 2, "FIELD"),
+    (FIELD, 5, "FIELD"),
+    (FIELD, 7, "FIELD"),
+    (NAME, 1, "NAME"),
+    (ROOM, 0, "ROOM"),
+];
+
+/// How often each kind of image came, and each answer.
+#[derive(Default)]
+pub struct Answers {
+    kinds: BTreeMap<&'static str, u64>,
+    written: u64,
+    refused: BTreeMap<(u8, u8), u64>,
+}
+
+impl Answers {
+    pub fn count(&mut self, kind: &'static str, answer: &Result<Vec<u8>, Refusal>) {
+        *self.kinds.entry(kind).or_default() += 1;
+        match answer {
+            Ok(_) => self.written += 1,
+            Err(refusal) => {
+                *self
+                    .refused
+                    .entry((refusal.number, refusal.block))
+                    .or_default() += 1
+            }
+        }
+    }
+
+    fn refusals(&self, number: u8, block: u8) -> u64 {
+        self.refused.get(&(number, block)).copied().unwrap_or(0)
+    }
+
+    pub fn print(&self) {
+        for (kind, times) in &self.kinds {
+            println!("{times:>9}  {kind}");
+        }
+        println!("{:>9}  written", self.written);
+        for (number, block, name) in REFUSALS {
+            let times = self.refusals(number, block);
+            println!("{times:>9}  {number} {name}, block {block}");
+        }
+    }
+
+    /// No answer that can be given may be missing or rare, and no other may be given.
+    pub fn check(&self, least_written: u64, least: u64) {
+        assert!(
+            self.written >= least_written,
+            "only {} headers written",
+            self.written
+        );
+        let mut listed = 0;
+        for (number, block, name) in REFUSALS {
+            let times = self.refusals(number, block);
+            assert!(
+                times >= least,
+                "{name} in block {block} came only {times} times"
+            );
+            listed += times;
+        }
+        let given: u64 = self.refused.values().sum();
+        assert_eq!(listed, given, "a refusal that no image can lead to");
+    }
+}
