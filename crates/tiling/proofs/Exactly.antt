@@ -11,7 +11,8 @@ use Rattle.wire.specs.Wire.{Bytes, span, num, tab}
 use Rattle.wire.proofs.Spans.{length-span}
 use Rattle.wire.proofs.Rows.{tab-lt}
 use Rattle.wire.proofs.Pieces.{num-span-lt}
-use Rattle.rules.specs.Rules.{judge, Ruling, fine, refused, Reply, says, refuses, reply}
+use Rattle.rules.specs.Rules.{judge, Ruling, fine, refused, paper, after, says, reply}
+use Rattle.rules.specs.declared.Verdict.{Verdict}
 use Rattle.rules.proofs.Judge.{Holds, holds, exactly, each-is, each-of}
 use Rattle.header.specs.declared.Header.{Header}
 use Rattle.header.specs.Places.{orderOf, aOf, bOf, cOf, at9, at10, at11, headerLength, lengthOf, dataLength}
@@ -21,7 +22,7 @@ use Rattle.header.specs.Entries.{column, entriesOf}
 use Rattle.accept.specs.declared.Facts.{Facts}
 use Rattle.accept.specs.Checks.{checks}
 use Rattle.accept.specs.Answers.{factsOf, answerOf}
-use Rattle.writer.specs.Given.{orders, lengths8, lengths9, lengths10, room, given, ruled}
+use Rattle.writer.specs.Given.{orders, lengths8, lengths9, lengths10, room, given, ruled, Wrote}
 use Rattle.tiling.specs.Made.{Run, Numbers, Fit, Made, IsAccepted, Readable, Writable}
 use Rattle.tiling.proofs.Tables.{Accepted, accepted, accepting, dataOf}
 use Rattle.tiling.proofs.Back as back
@@ -178,14 +179,17 @@ module _ (s : List ℕ) (b : Bytes s) where
       }
 
 -- the answer is an acceptance exactly when no check fails
-is-fine : (r : Ruling) (f : Facts) → reply r f ≡ says f → r ≡ fine
+is-fine : (r : Ruling) (x f : Facts) → reply r x ≡ says f → r ≡ fine
 unfolding reply
-is-fine fine f e = refl
-is-fine (refused t) f e = absurd (let z : _≡_ {A = ℕ} 0 1 = cc in omega arith)
+is-fine fine x f e = refl
+is-fine (refused t) x f e = absurd (let z : _≡_ {A = ℕ} 0 1 = cc in omega arith)
+
+says-fine : (s : List ℕ) (f : Facts) → answerOf s ≡ says f → judge fine (checks s) ≡ fine
+unfolding answerOf
+says-fine s f e = is-fine (judge fine (checks s)) (factsOf s) f e
 
 accepted-fine : (s : List ℕ) → IsAccepted s → judge fine (checks s) ≡ fine
-unfolding answerOf
-accepted-fine s e = is-fine (judge fine (checks s)) (factsOf s) e
+accepted-fine s e = says-fine s (factsOf s) e
 
 fine-accepted : (s : List ℕ) → judge fine (checks s) ≡ fine → IsAccepted s
 unfolding answerOf reply
@@ -200,6 +204,10 @@ made-accepted s m = fine-accepted s (only s m)
 -- a file is accepted exactly when it is the header of good values and then its counts
 pub accepted-exactly : (s : List ℕ) → Bytes s → IsAccepted s ↔ Made s
 accepted-exactly s b = (λ e. made s b (accepted s (accepted-fine s e)), made-accepted s)
+
+-- an answer that says accepted, with whatever facts, says so of a file that is made
+pub says-made : (s : List ℕ) → Bytes s → (f : Facts) → answerOf s ≡ says f → Made s
+says-made s b f e = made s b (accepted s (says-fine s f e))
 
 -- what is read of an accepted file writes back, byte for byte, spares too
 pub writes-back : (s : List ℕ) → Bytes s → IsAccepted s → encode (headerOf s) (entriesOf s) ++ drop (lengthOf s) s ≡ s
@@ -241,3 +249,11 @@ readable-writable v e r =
 
 pub takes-exactly : (v : Header) (e : Entries) → Writable v e ↔ Readable v e
 takes-exactly v e = (writable-readable v e, readable-writable v e)
+
+-- whatever call of the writer is given an accepted file's values and entries, with room, puts the file's header there
+pub rewrites : (s : List ℕ) → Bytes s → IsAccepted s → (l : List ℕ) (r : Verdict) (out : List ℕ) → lengthOf s ≤ length l → Wrote l (headerOf s) (entriesOf s) r out
+    → (paper r ≡ fine) × (out ≡ encode (headerOf s) (entriesOf s) ++ drop (length (encode (headerOf s) (entriesOf s))) l)
+unfolding after
+rewrites s b e l r out h w =
+    let g = takes-back s b e (length l) h in
+    (w .says ∙ g, w .leaves ∙ rw g)
