@@ -10,8 +10,8 @@ use crate::set::PLACE;
 use crate::show;
 
 const BROKEN: [usize; 123] = [
-    // ---- in both byte orders
-    // LENGTH: one less, one more, the bytes the other way round; block 10's are four
+    // in both byte orders
+    // LENGTH: the bytes the other way round, one more, and in the upper or the lower half of block 10's four bytes
     LITTLE + set::LENGTH + 1 * BLOCK + 6657,
     BIG + set::LENGTH + 1 * BLOCK + 6657,
     LITTLE + set::LENGTH + 8 * BLOCK + 62,
@@ -66,9 +66,9 @@ const BROKEN: [usize; 123] = [
     LITTLE + set::DATA + 65552,
     BIG + set::DATA + 65552,
     // TAIL
-    LITTLE + set::MORE + 1,
-    BIG + set::MORE + 1,
-    // ---- in one of them
+    LITTLE + set::BYTES + 1480,
+    BIG + set::BYTES + 1480,
+    // in one byte order each
     // NUMBER
     LITTLE + set::NUMBER + 1 * BLOCK + 0,
     BIG + set::NUMBER + 2 * BLOCK + 3,
@@ -115,14 +115,14 @@ const BROKEN: [usize; 123] = [
     BIG + set::FLAG + 255,
     // FIELD: lines
     LITTLE + set::LINES + 0,
-    // FIELD: satellite, its last digit, its letters, the first and the last of its zeros; the first of the two is named otherwise only
+    // FIELD: satellite, its digit, a letter, the first and the last of its zeros; the first is a good one, which the name then contradicts
     LITTLE + set::SATELLITE + 9,
     LITTLE + set::SATELLITE + 7,
     BIG + set::BYTE + 15 * PLACE + 0x3a,
     LITTLE + set::BYTE + 6 * PLACE + 0x68,
     LITTLE + set::BYTE + 16 * PLACE + 0x20,
     BIG + set::BYTE + 21 * PLACE + 0x01,
-    // FIELD: area, beside each series; the first is a good one, and named otherwise only
+    // FIELD: area, beside each series, and a small letter; the first is a good one, which the name then contradicts
     LITTLE + set::AREA + plan::JP01,
     LITTLE + set::AREA + plan::JP00,
     BIG + set::AREA + plan::JP05,
@@ -157,7 +157,7 @@ const BROKEN: [usize; 123] = [
     LITTLE + set::HEADER + 66999,
     BIG + set::HEADER + 1464,
     // TAIL
-    LITTLE_FULL + set::MORE + 2,
+    LITTLE_FULL + set::BYTES + 1553,
 ];
 
 pub(crate) fn run(buf: &mut [u8]) {

@@ -51,38 +51,38 @@ const COUNTED: [usize; 64] = [
     LITTLE + good::C + 65535,
     BIG + good::C + 65535,
     AND + set::LENGTH + 10 * BLOCK + 43,
-    // ---- sizes whose counts pass what two bytes hold, cut where two bytes of the product would end, or where the room ends
+    // sizes whose counts pass what two bytes hold, cut where two bytes of the product would end, or where the room ends
     // CUT, and not good
     LITTLE + good::COLUMNS + 256,
     AND + good::LINES + 128,
     AND + set::DATA + 65536,
-    AND + set::KEEP + 1463,
+    AND + set::BYTES + 1463,
     LITTLE + good::COLUMNS + 256,
     AND + good::LINES + 129,
     AND + set::DATA + 66048,
-    AND + set::KEEP + 1975,
+    AND + set::BYTES + 1975,
     BIG + good::COLUMNS + 22000,
     AND + good::LINES + 22000,
     AND + set::DATA + 968000000,
-    AND + set::KEEP + 65536,
+    AND + set::BYTES + 65536,
     // DATA SUM, and not good
     LITTLE + good::COLUMNS + 256,
     AND + good::LINES + 128,
     AND + set::DATA + 0,
-    AND + set::KEEP + 1463,
+    AND + set::BYTES + 1463,
     BIG + good::COLUMNS + 256,
     AND + good::LINES + 129,
     AND + set::DATA + 512,
-    AND + set::KEEP + 1975,
+    AND + set::BYTES + 1975,
     LITTLE + good::COLUMNS + 22000,
     AND + good::LINES + 22000,
     AND + set::DATA + 33280,
-    AND + set::KEEP + 34743,
+    AND + set::BYTES + 34743,
     // the widest line with its last byte missing
     LITTLE + good::COLUMNS + 22000,
     AND + good::LINES + 1,
     AND + set::DATA + 44000,
-    AND + set::KEEP + 45462,
+    AND + set::BYTES + 45462,
 ];
 
 pub(crate) fn run(buf: &mut [u8]) {

@@ -3,7 +3,6 @@ use crate::change;
 use crate::plan;
 use crate::set;
 use crate::set::BLOCK;
-ghost use Prim.Native.Nat.{_≤_};
 
 // The value is a place of the plan.
 const PLAN: usize = change::FILE;
@@ -63,18 +62,8 @@ const FIELDS: [usize; 51] = [
     PLAN + set::C + plan::C,
 ];
 
-pub(crate) fn least(a: usize, b: usize) -> usize
-    ensures { λ r. ⌜ r ≤ b ⌝ }
-{
+fn least(a: usize, b: usize) -> usize {
     if a <= b { a } else { b }
-}
-
-// n and some more, but no more than there is room for.
-pub(crate) fn grown(n: usize, room: usize, more: usize) -> usize {
-    if n <= room {
-        return n + least(more, room - n);
-    }
-    room
 }
 
 fn spread(out: &mut [u8], from: usize, to: usize, b: u8) {
@@ -85,17 +74,21 @@ fn spread(out: &mut [u8], from: usize, to: usize, b: u8) {
     }
 }
 
-// The number that a change in FIELDS gives, or the plan's number at the place that it gives.
-fn planned(p: [usize; 22], x: usize) -> usize {
-    if x < PLAN {
-        return x;
+// One field after the other, and then the changes of the case. A field is set to its number, or to the plan's at that place.
+fn field(p: [usize; 22], x: [usize; 4], i: usize) -> usize {
+    if 51 <= i {
+        return x[(i - 51) % 4];
     }
-    change::what(x) * change::WHAT + p[change::value(x) % 22] % change::WHAT
+    let y = FIELDS[i];
+    if y < PLAN {
+        return y;
+    }
+    change::what(y) * change::WHAT + p[change::value(y) % 22] % change::WHAT
 }
 
-fn put_fields(out: &mut [u8], p: [usize; 22]) {
-    for i in 0..51 {
-        set::apply(out, p, planned(p, FIELDS[i]));
+fn put_fields(out: &mut [u8], p: [usize; 22], x: [usize; 4]) {
+    for i in 0..55 {
+        set::apply(out, p, field(p, x, i));
     }
 }
 
@@ -106,12 +99,13 @@ fn put_texts(out: &mut [u8]) {
     spread(out, 157, 242, 0);
 }
 
-// Answers how many of the lent bytes the file is. A few bytes more are made, for files with bytes after their end.
-pub(crate) fn file(out: &mut [u8], p: [usize; 22]) -> usize {
+// Makes the file of a case, and answers how long it is before it is cut. A few bytes more are made, for files with bytes after their end.
+pub(crate) fn file(out: &mut [u8], x: [usize; 4]) -> usize {
+    let p = plan::of_case(x);
     let n = plan::start(p, 12) + plan::counts(p[plan::COLUMNS], p[plan::LINES]);
     let room = out.len();
     spread(out, 0, least(n + 64, room), (p[plan::FILL] % 256) as u8);
     put_texts(out);
-    put_fields(out, p);
-    least(n, room)
+    put_fields(out, p, x);
+    n
 }

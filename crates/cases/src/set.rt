@@ -1,7 +1,6 @@
-// Changes of a file that was made: a field is set, or the file is cut or grows.
+// Changes of a file that was made: a field is set, or the file gets another length.
 use crate::change;
 use crate::change::WHAT;
-use crate::make;
 use crate::plan;
 use crate::text;
 
@@ -12,84 +11,82 @@ pub const PLACE: usize = WHAT;
 
 pub const BYTE: usize = 1000 * WHAT;
 
-// How many bytes are kept, and how many more there are.
-pub const KEEP: usize = 15 * WHAT;
-
-pub const MORE: usize = 16 * WHAT;
+// How many bytes the file has, fewer or more than before.
+pub const BYTES: usize = 15 * WHAT;
 
 // The first two of the four bytes of block 10's length.
-pub const HALF: usize = 17 * WHAT;
+pub const HALF: usize = 16 * WHAT;
 
 // The others: see FIELDS and NAMES, whose places these are.
-pub const BLOCKS: usize = 18 * WHAT;
+pub const BLOCKS: usize = 17 * WHAT;
 
-pub const NUMBER: usize = 18 * WHAT;
+pub const NUMBER: usize = 17 * WHAT;
 
-pub const LENGTH: usize = 29 * WHAT;
+pub const LENGTH: usize = 28 * WHAT;
 
-pub const ORDER: usize = 41 * WHAT;
+pub const ORDER: usize = 40 * WHAT;
 
-pub const SATELLITE: usize = 42 * WHAT;
+pub const SATELLITE: usize = 41 * WHAT;
 
-pub const AREA: usize = 43 * WHAT;
+pub const AREA: usize = 42 * WHAT;
 
-pub const TIMELINE: usize = 44 * WHAT;
+pub const TIMELINE: usize = 43 * WHAT;
 
-pub const START: usize = 45 * WHAT;
+pub const START: usize = 44 * WHAT;
 
-pub const HEADER: usize = 46 * WHAT;
+pub const HEADER: usize = 45 * WHAT;
 
-pub const DATA: usize = 47 * WHAT;
+pub const DATA: usize = 46 * WHAT;
 
-pub const QUALITY: usize = 48 * WHAT;
+pub const QUALITY: usize = 47 * WHAT;
 
-pub const NAME_SATELLITE: usize = 49 * WHAT;
+pub const NAME_SATELLITE: usize = 48 * WHAT;
 
-pub const NAME_DATE: usize = 50 * WHAT;
+pub const NAME_DATE: usize = 49 * WHAT;
 
-pub const NAME_TIME: usize = 51 * WHAT;
+pub const NAME_TIME: usize = 50 * WHAT;
 
-pub const NAME_BAND: usize = 52 * WHAT;
+pub const NAME_BAND: usize = 51 * WHAT;
 
-pub const NAME_AREA: usize = 53 * WHAT;
+pub const NAME_AREA: usize = 52 * WHAT;
 
-pub const NAME_RESOLUTION: usize = 54 * WHAT;
+pub const NAME_RESOLUTION: usize = 53 * WHAT;
 
-pub const NAME_SEGMENT: usize = 55 * WHAT;
+pub const NAME_SEGMENT: usize = 54 * WHAT;
 
-pub const NAME_TOTAL: usize = 56 * WHAT;
+pub const NAME_TOTAL: usize = 55 * WHAT;
 
-pub const BITS: usize = 57 * WHAT;
+pub const BITS: usize = 56 * WHAT;
 
-pub const COLUMNS: usize = 58 * WHAT;
+pub const COLUMNS: usize = 57 * WHAT;
 
-pub const LINES: usize = 59 * WHAT;
+pub const LINES: usize = 58 * WHAT;
 
-pub const FLAG: usize = 60 * WHAT;
+pub const FLAG: usize = 59 * WHAT;
 
-pub const BAND: usize = 61 * WHAT;
+pub const BAND: usize = 60 * WHAT;
 
-pub const VALID: usize = 62 * WHAT;
+pub const VALID: usize = 61 * WHAT;
 
-pub const ERROR: usize = 63 * WHAT;
+pub const ERROR: usize = 62 * WHAT;
 
-pub const OUTSIDE: usize = 64 * WHAT;
+pub const OUTSIDE: usize = 63 * WHAT;
 
-pub const GAIN: usize = 65 * WHAT;
+pub const GAIN: usize = 64 * WHAT;
 
-pub const CONSTANT: usize = 66 * WHAT;
+pub const CONSTANT: usize = 65 * WHAT;
 
-pub const TOTAL: usize = 67 * WHAT;
+pub const TOTAL: usize = 66 * WHAT;
 
-pub const SEGMENT: usize = 68 * WHAT;
+pub const SEGMENT: usize = 67 * WHAT;
 
-pub const FIRST: usize = 69 * WHAT;
+pub const FIRST: usize = 68 * WHAT;
 
-pub const A: usize = 70 * WHAT;
+pub const A: usize = 69 * WHAT;
 
-pub const B: usize = 71 * WHAT;
+pub const B: usize = 70 * WHAT;
 
-pub const C: usize = 72 * WHAT;
+pub const C: usize = 71 * WHAT;
 
 // Width and form of a field: a number of one, two or four bytes, the upper half of one of eight, a byte that is told of
 // in hexadecimal, and four letters. All others are decimal digits.
@@ -106,14 +103,13 @@ const BARE: usize = 1_4;
 const LETTERS: usize = 4_2;
 
 // A field as a number: its block, its place there in four digits, its width and its form. A place of a plan has block 0.
-const FIELDS: [usize; 73] = [
+const FIELDS: [usize; 72] = [
     0_0000_00,
     0_0000_00,
     0_0000_00,
     0_0000_00,
     0_0000_00,
     0_0000_42,
-    0_0000_00,
     0_0000_00,
     0_0000_00,
     0_0000_00,
@@ -183,7 +179,7 @@ const FIELDS: [usize; 73] = [
 ];
 
 // Each in 16 bytes.
-const NAMES: [u8; 1168] = *b"\
+const NAMES: [u8; 1152] = *b"\
     none            \
     satellite       \
     date            \
@@ -199,8 +195,7 @@ const NAMES: [u8; 1168] = *b"\
     b               \
     c               \
     fill            \
-    cut to          \
-    longer by       \
+    bytes           \
     half length     \
     blocks          \
     number          \
@@ -260,7 +255,7 @@ const NAMES: [u8; 1168] = *b"\
 
 fn field_of(what: usize) -> usize {
     if what < 1000 {
-        return FIELDS[what % 73];
+        return FIELDS[what % 72];
     }
     // a byte of block 1
     1_0000_14 + 100 * (what % 1000)
@@ -297,20 +292,22 @@ pub(crate) fn apply(out: &mut [u8], p: [usize; 22], x: usize) {
 
 fn tell_value(field: usize, value: usize) {
     match field % 100 {
-        LETTERS => text::letters(b" ", (value % WHAT) as u32),
-        UPPER => text::hex(b" ", value as u64, 8),
-        BARE => text::hex(b" ", value as u64, 2),
-        _ => text::fact(b" ", value),
+        LETTERS => text::letters((value % WHAT) as u32),
+        UPPER => text::hex(value as u64, 8),
+        BARE => text::hex(value as u64, 2),
+        _ => text::number(value),
     }
 }
 
 fn tell_name(what: usize) {
     if what < 1000 {
         let names = NAMES;
+        text::word(b" ");
         text::name(wire::piece(&names, 16 * what, 16));
         return;
     }
-    text::fact(b"byte ", what - 1000);
+    text::word(b" byte");
+    text::number(what - 1000);
 }
 
 // Tells of a change, where it is one.
@@ -321,21 +318,19 @@ pub(crate) fn tell(x: usize) {
     }
     let field = field_of(what);
     let block = field / 1000000;
-    text::word(b", ");
+    text::word(b",");
     if block != 0 {
-        text::fact(b"set block ", block);
-        text::word(b" ");
+        text::word(b" set block");
+        text::number(block);
     }
     tell_name(what);
     tell_value(field, change::value(x));
 }
 
-// How long a file is after a change, of at most as many bytes as there is room for.
-pub(crate) fn length(n: usize, room: usize, x: usize) -> usize {
-    let value = change::value(x);
-    match change::what(x) * WHAT {
-        KEEP => make::least(n, value),
-        MORE => make::grown(n, room, value),
-        _ => n,
+// How long a file is after a change.
+pub(crate) fn length(n: usize, x: usize) -> usize {
+    if change::what(x) * WHAT == BYTES {
+        return change::value(x);
     }
+    n
 }

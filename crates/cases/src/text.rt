@@ -5,31 +5,28 @@ pub(crate) fn word(s: &[u8]) {
     io::write_all(STDOUT_FILENO, s);
 }
 
+// A number after a blank.
 pub(crate) fn number(n: usize) {
+    word(b" ");
     io::print_decimal(STDOUT_FILENO, n as u64);
 }
 
-pub(crate) fn fact(name: &[u8], n: usize) {
-    word(name);
-    number(n);
-}
-
 // The same for numbers of one, two and four bytes.
-pub(crate) fn one(name: &[u8], n: u8) {
-    fact(name, n as usize);
+pub(crate) fn one(n: u8) {
+    number(n as usize);
 }
 
-pub(crate) fn two(name: &[u8], n: u16) {
-    fact(name, n as usize);
+pub(crate) fn two(n: u16) {
+    number(n as usize);
 }
 
-pub(crate) fn four(name: &[u8], n: u32) {
-    fact(name, n as usize);
+pub(crate) fn four(n: u32) {
+    number(n as usize);
 }
 
-// A number in hexadecimal, with zeros in front.
-pub(crate) fn hex(name: &[u8], n: u64, digits: usize) {
-    word(name);
+// The same in hexadecimal, with zeros in front.
+pub(crate) fn hex(n: u64, digits: usize) {
+    word(b" ");
     io::print_hex(STDOUT_FILENO, n, digits);
 }
 
@@ -44,11 +41,11 @@ pub(crate) fn digits(n: usize) -> [u8; 10] {
     d
 }
 
-// Four letters, of which the first is the highest byte.
-pub(crate) fn letters(name: &[u8], n: u32) {
+// The same as four letters, of which the first is the highest byte.
+pub(crate) fn letters(n: u32) {
     let mut b = [0u8; 4];
     wire::put_u32(&mut b, 0, n, 1);
-    word(name);
+    word(b" ");
     word(&b);
 }
 
