@@ -224,9 +224,9 @@ fn check_whole(v: Verdict, s: &[u8], order: u8, header: usize, counts: usize) ->
     check_ends(v, s, header, counts)
 }
 
-// Judges a file: the first check that fails answers.
-pub fn verdict(s: &[u8]) -> Verdict
-    ensures { λ r. ⌜ paper r ≡ judge fine (checks (now (s .entry))) ⌝ }
+// Every check of a file, on top of what was checked before it.
+pub fn check_file(v: Verdict, s: &[u8]) -> Verdict
+    ensures { λ r. ⌜ paper r ≡ judge (paper v) (checks (now (s .entry))) ⌝ }
 {
     let order = wire::byte_at(s, 5);
     let a = header::a_of(s);
@@ -235,14 +235,21 @@ pub fn verdict(s: &[u8]) -> Verdict
     let sizes = header::read_block2(s, order);
     let header = header::header_length(a, b, c) as usize;
     let counts = header::data_length(sizes.columns, sizes.lines);
-    let v = check_blocks1to4(Verdict::Fine, s, order);
+    let v = check_blocks1to4(v, s, order);
     let v = check_blocks5to7(v, s, order);
     let v = check_blocks8to11(v, s, order, a, b, c);
     check_whole(v, s, order, header, counts)
 }
 
+// Judges a file: the first check that fails answers.
+pub fn verdict(s: &[u8]) -> Verdict
+    ensures { λ r. ⌜ paper r ≡ judge fine (checks (now (s .entry))) ⌝ }
+{
+    check_file(Verdict::Fine, s)
+}
+
 // What a file is known by, whether it is accepted or not.
-fn facts_of(s: &[u8]) -> Facts
+pub fn facts_of(s: &[u8]) -> Facts
     ensures { λ r. ⌜ r ≡ factsOf (now (s .entry)) ⌝ }
 {
     let order = wire::byte_at(s, 5);

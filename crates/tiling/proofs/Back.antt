@@ -12,7 +12,7 @@ use Rattle.header.specs.Places.{orderOf, aOf, bOf, cOf, at9, at10, at11, header
 use Rattle.header.specs.Values.{block1Of, block2Of, block5Of, block7Of, block8Of, headerOf}
 use Rattle.header.specs.Encode.{bytes1, bytes2, carrying, bytes5, bytes7, entry8, entry9, entry10, bytes8, bytes9, bytes10, encode}
 use Rattle.header.specs.Entries.{column, entriesOf}
-use Rattle.tiling.proofs.Tables.{Accepted, dataOf}
+use Rattle.accept.proofs.Tables.{Accepted, dataOf}
 
 pub size : (s : List ℕ) → Accepted s → length s ≡ lengthOf s + dataOf s
 size s h = omega (arith, h .shape11 .room, h .whole .cut, h .whole .tail)

@@ -24,7 +24,7 @@ use Rattle.accept.specs.Checks.{checks}
 use Rattle.accept.specs.Answers.{factsOf, answerOf}
 use Rattle.writer.specs.Given.{orders, lengths8, lengths9, lengths10, room, given, ruled, Wrote}
 use Rattle.tiling.specs.Made.{Run, Numbers, Fit, Made, IsAccepted, Readable, Writable}
-use Rattle.tiling.proofs.Tables.{Accepted, accepted, accepting, dataOf}
+use Rattle.accept.proofs.Tables.{Accepted, accepted, accepting, dataOf}
 use Rattle.tiling.proofs.Back as back
 use Rattle.tiling.proofs.Forth as forth
 use Rattle.tiling.proofs.Forth.{Good}

@@ -19,7 +19,7 @@ use Rattle.header.specs.Encode.{Entries, bytes1, bytes2, carrying, bytes5, byte
 use Rattle.accept.specs.Checks.{fields1, fields2, fields5, fields7, names}
 use Rattle.writer.proofs.Written.{size-most}
 use Rattle.tiling.specs.Made.{Fit, Numbers}
-use Rattle.tiling.proofs.Tables.{Accepted}
+use Rattle.accept.proofs.Tables.{Accepted}
 use Rattle.tiling.proofs.Inside.{inside, row-of}
 
 -- values and entries that are good to write

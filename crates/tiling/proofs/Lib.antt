@@ -1,5 +1,4 @@
 -- The theorem and its two halves.
-pub mod Tables
 pub mod Back
 pub mod Inside
 pub mod Forth

@@ -1,46 +1,12 @@
--- `verdict`: the blocks' tables and those of the whole file.
-use mathlib.Core.Path.{_∙_}
+-- `verdict`: nothing was checked before.
 use Rattle.rules.specs.Rules.{paper}
-use Rattle.rules.proofs.Judge.{tried, table, last}
-use Rattle.accept.specs.Checks.{checks}
 use borrow.Author.Needs.{needs}
 use Rattle.accept.proofs.verdict.Statement.{statement}
 use Rattle.accept.proofs.verdict.Tie as tie
 
 returns : tie.Need-returns
-unfolding paper checks
-returns c =
-    let checkblocks8to11 = c .before in
-    let checkblocks5to7 = checkblocks8to11 .before in
-    let checkblocks1to4 = checkblocks5to7 .before in
-    let datalength = checkblocks1to4 .before in
-    let headerlength = datalength .before in
-    let readblock2 = headerlength .before in
-    let cof = readblock2 .before in
-    let bof = cof .before in
-    let aof = bof .before in
-    let byteat = aof .before in
-    let sharedsliceknown = byteat .before in
-    tried
-    (table (checkblocks1to4 .check-blocks1to4 .ensures ∙ rw (byteat .byte-at .ensures))
-    (table (checkblocks5to7 .check-blocks5to7 .ensures ∙ rw (byteat .byte-at .ensures))
-    (table (checkblocks8to11 .check-blocks8to11 .ensures ∙ rw (byteat .byte-at .ensures, aof .a-of .ensures, bof .b-of .ensures, cof .c-of .ensures))
-    (table (c .check-whole .ensures ∙ rw (headerlength .header-length .ensures, datalength .data-length .ensures, readblock2 .read-block2 .ensures, byteat .byte-at .ensures, aof .a-of .ensures, bof .b-of .ensures, cof .c-of .ensures)) last))))
+unfolding paper
+returns c = c .check-file .ensures
 
 pub verdict-spec : {M : Type 1} → statement M
-verdict-spec =
-    tie.close
-    (tie.spec
-    (λ c κs. search needs)
-    (λ c κs. search needs)
-    (λ c κs. search needs)
-    (λ c κs. search needs)
-    (λ c κs. search needs)
-    (λ c κs. search needs)
-    (λ c. search needs)
-    (λ c κs. search needs)
-    (λ c κs. search needs)
-    (λ c κs. search needs)
-    (λ c κs. search needs)
-    (λ c κs. search needs)
-    returns)
+verdict-spec = tie.close (tie.spec (λ c κs. search needs) returns)

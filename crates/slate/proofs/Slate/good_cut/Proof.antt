@@ -1,0 +1,13 @@
+use mathlib.Core.Path.{_≡_, refl, sym, ap, _∙_}
+use Rattle.slate.specs.Cut.{goodCut}
+use native.Mathlib.Omega.{arith}
+use borrow.Author.Needs.{needs}
+use Rattle.slate.proofs.Slate.good_cut.Statement.{statement}
+use Rattle.slate.proofs.Slate.good_cut.Tie as tie
+
+returns : tie.Need-returns
+unfolding goodCut
+returns c = rw (c .lines-to .ensures)
+
+pub good-cut-spec : {M : Type 1} → statement M
+good-cut-spec = tie.close (tie.spec (λ c. search needs) (λ c κs. search needs) returns)

@@ -1,0 +1,13 @@
+use mathlib.Core.Path.{refl}
+use Rattle.slate.specs.Cut.{heightOf}
+use native.Mathlib.Omega.{arith}
+use borrow.Author.Needs.{needs}
+use Rattle.slate.proofs.Slate.height_of.Statement.{statement}
+use Rattle.slate.proofs.Slate.height_of.Tie as tie
+
+returns : tie.Need-returns
+unfolding heightOf
+returns c = refl
+
+pub height-of-spec : {M : Type 1} → statement M
+height-of-spec = tie.close (tie.spec returns)

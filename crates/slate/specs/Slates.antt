@@ -1,0 +1,89 @@
+-- A slate: the shot that a frame is for, and the sizes of the frame.
+use Prim.Native.Nat.{ℕ, _+_, _*_, _-_}
+use mathlib.Core.Bool.{Bool, _&&_, _||_, cond}
+use mathlib.Core.List.{List, [], _∷_}
+use lib.Dec.{leb, eqb}
+use Rattle.wire.specs.Wire.{digits}
+use Rattle.rules.specs.Rules.{paperOf, fine, Row, row, judge, Reply, says, refuses, reply}
+use Rattle.calendar.specs.Shots.{goodDay, goodTimeline}
+use Rattle.format.specs.Ranges.{goodArea, goodSize, goodTotal}
+use Rattle.format.specs.Bands.{goodBand}
+use Rattle.accept.specs.declared.Facts.{Facts}
+use Rattle.slate.specs.Cut.{heightOf, linesTo, goodCut, coverOf}
+use Rattle.slate.specs.declared.Slate.{Slate}
+use Rattle.slate.specs.declared.Slated.{Slated}
+use Rattle.slate.specs.declared.Slated.the-variants.{Made, Refused}
+
+-- the parts that name the shot are in range
+abbrev pub goodShot : Slate → Bool
+goodShot s =
+    (eqb (s .satellite) 8 || eqb (s .satellite) 9)
+    && goodDay (s .day)
+    && goodTimeline (s .timeline)
+    && goodBand (s .band)
+    && goodArea (digits 1 4 (s .area))
+
+-- each part is in range
+unfoldable pub goodSlate : Slate → Bool
+goodSlate s = goodShot s && goodSize (s .columns) && goodTotal (s .total) && goodCut s
+
+-- 13 SLATE
+unfoldable pub slated : Slate → List Row
+slated s = row (goodSlate s) 13 0 ∷ []
+
+unfoldable pub paperSlate : Slated → Reply Slate
+paperSlate (Made s) = says s
+paperSlate (Refused t) = refuses (paperOf t)
+
+-- the slate of given parts, or the refusal
+unfoldable pub slateOf : Slate → Reply Slate
+slateOf s = reply (judge fine (slated s)) s
+
+-- ---- sizes, in counts
+
+abbrev pub sizeOf : Slate → ℕ → ℕ
+sizeOf s k = heightOf s k * s .columns
+
+-- where segment k begins in the frame
+abbrev pub startOf : Slate → ℕ → ℕ
+startOf s k = linesTo s (k - 1) * s .columns
+
+abbrev pub frameLines : Slate → ℕ
+frameLines s = linesTo s (s .total)
+
+abbrev pub frameSize : Slate → ℕ
+frameSize s = frameLines s * s .columns
+
+-- where the count at a line and a column stands in the frame
+abbrev pub placeOf : Slate → ℕ → ℕ → ℕ
+placeOf s line column = (line - 1) * s .columns + (column - 1)
+
+-- a line is one of the frame's
+abbrev pub inFrame : Slate → ℕ → Bool
+inFrame s line = leb 1 line && leb line (frameLines s)
+
+-- the number of the segment that covers a line of a good slate's frame, and else 0
+unfoldable pub coverOr0 : Slate → ℕ → ℕ
+coverOr0 s line = cond (goodSlate s && inFrame s line) (coverOf s line) 0
+
+-- ---- the match
+
+-- the parts of a slate that name the shot agree
+abbrev pub sameShot : Slate → Facts → Bool
+sameShot s f =
+    eqb (f .satellite) (s .satellite)
+    && eqb (f .day) (s .day)
+    && eqb (f .timeline) (s .timeline)
+    && eqb (f .band) (s .band)
+    && eqb (f .area) (s .area)
+
+-- and those that cut it; the file's lines and first line are those of its number's segment
+unfoldable pub sameCut : Slate → Facts → Bool
+sameCut s f =
+    eqb (f .columns) (s .columns)
+    && eqb (f .total) (s .total)
+    && eqb (f .lines) (heightOf s (f .number))
+    && eqb (f .first) (linesTo s (f .number - 1) + 1)
+
+abbrev pub matching : Slate → Facts → Bool
+matching s f = sameShot s f && sameCut s f

@@ -1,0 +1,223 @@
+// The slate of a frame: which shot is on it, how its lines are cut into segments, and which files it is for.
+use accept::Facts;
+use rules::Refusal;
+use rules::Verdict;
+use rules::Why;
+ghost use mathlib.Core.Path.{_≡_};
+ghost use Prim.Native.Nat.{_+_, _*_, _-_, _≤_};
+ghost use Rattle.wire.specs.Wire.{digits};
+ghost use Rattle.rules.specs.Rules.{paper, judge};
+ghost use Rattle.slate.specs.Cut.{heightOf, linesTo, goodCut};
+ghost use Rattle.slate.specs.Slates.{goodSlate, slated, paperSlate, slateOf, sizeOf, startOf, frameLines, frameSize, placeOf, coverOr0, sameShot, sameCut, matching};
+
+// A line and a column of the frame, both counted from 1; neither stands for the other.
+pub struct Line(pub u16);
+
+pub struct Column(pub u16);
+
+// Made by `Slate::new` alone. The area is its four letters, the first one highest.
+pub struct Slate {
+    satellite: u8,
+    day: u32,
+    timeline: u16,
+    band: u16,
+    area: u32,
+    columns: u16,
+    // the segments, N
+    total: u8,
+    // the lines of each segment, L
+    lines: u16,
+}
+
+pub enum Slated {
+    Made(Slate),
+    Refused(Refusal),
+}
+
+impl Slate {
+    pub const FIRST_DAY: u32 = 51544;
+
+    pub const LAST_DAY: u32 = 88068;
+
+    pub const LAST_BAND: u16 = 16;
+
+    pub const MOST_COLUMNS: u16 = 22000;
+
+    pub const MOST_SEGMENTS: u8 = 99;
+
+    pub const MOST_LINES: u32 = 22000;
+
+    // The slate of these parts, or refusal 13.
+    pub fn new(
+        satellite: u8,
+        day: u32,
+        timeline: u16,
+        band: u16,
+        area: u32,
+        columns: u16,
+        total: u8,
+        lines: u16,
+    ) -> Slated
+        ensures { λ r. ⌜ paperSlate r ≡ slateOf (record { satellite = satellite; day = day; timeline = timeline; band = band; area = area; columns = columns; total = total; lines = lines }) ⌝ }
+    {
+        let slate = Slate {
+            satellite,
+            day,
+            timeline,
+            band,
+            area,
+            columns,
+            total,
+            lines,
+        };
+        let v = slate.check(Verdict::Fine);
+        match v {
+            Verdict::Refused(t) => Slated::Refused(t),
+            Verdict::Fine => Slated::Made(slate),
+        }
+    }
+
+    // Every function that takes a slate makes this check again.
+    pub fn check(self, v: Verdict) -> Verdict
+        ensures { λ r. ⌜ paper r ≡ judge (paper v) (slated self) ⌝ }
+    {
+        rules::check(v, self.is_good(), Why::Slate, 0)
+    }
+
+    pub fn is_good(self) -> bool
+        ensures { λ r. ⌜ r ≡ goodSlate self ⌝ }
+    {
+        ((self.satellite == 8) | (self.satellite == 9))
+            & ((Self::FIRST_DAY <= self.day) & (self.day <= Self::LAST_DAY))
+            & calendar::good_timeline(self.timeline)
+            & ((1 <= self.band) & (self.band <= Self::LAST_BAND))
+            & format::good_area(letters(self.area))
+            & ((1 <= self.columns) & (self.columns <= Self::MOST_COLUMNS))
+            & ((1 <= self.total) & (self.total <= Self::MOST_SEGMENTS))
+            & self.good_cut()
+    }
+
+    fn good_cut(self) -> bool
+        ensures { λ r. ⌜ r ≡ goodCut self ⌝ }
+    {
+        (1 <= self.lines) & (self.lines_to(self.total as u16) <= Self::MOST_LINES)
+    }
+
+    // The lines of segment k.
+    pub fn height_of(self, k: u8) -> u16
+        ensures { λ r. ⌜ r ≡ heightOf self k ⌝ }
+    {
+        self.lines
+    }
+
+    // The lines of segments 1 to n.
+    pub fn lines_to(self, n: u16) -> u32
+        ensures { λ r. ⌜ r ≡ linesTo self n ⌝ }
+    {
+        n as u32 * self.lines as u32
+    }
+
+    pub fn columns(self) -> u16
+        ensures { λ r. ⌜ r ≡ self .columns ⌝ }
+    {
+        self.columns
+    }
+
+    pub fn total(self) -> u8
+        ensures { λ r. ⌜ r ≡ self .total ⌝ }
+    {
+        self.total
+    }
+
+    // The counts of segment k.
+    pub fn size_of(self, k: u8) -> usize
+        ensures { λ r. ⌜ r ≡ sizeOf self k ⌝ }
+    {
+        product(self.height_of(k) as u32, self.columns)
+    }
+
+    // Where segment k begins in the frame.
+    pub fn start_of(self, k: u8) -> usize
+        ensures { λ r. ⌜ r ≡ startOf self k ⌝ }
+    {
+        product(self.lines_to(down(k as u16)), self.columns)
+    }
+
+    // The counts of the frame.
+    pub fn frame_size(self) -> usize
+        ensures { λ r. ⌜ r ≡ frameSize self ⌝ }
+    {
+        product(self.lines_to(self.total as u16), self.columns)
+    }
+
+    // Where a count stands in the frame: the one place where a line and a column meet.
+    pub fn place_of(self, line: Line, column: Column) -> usize
+        ensures { λ r. ⌜ r ≡ placeOf self (line .0) (column .0) ⌝ }
+    {
+        product(down(line.0) as u32, self.columns) + down(column.0) as usize
+    }
+
+    // The number of the segment that covers a line; 0 for a bad slate and for a line outside the frame.
+    pub fn cover_of(self, line: Line) -> u8
+        ensures { λ r. ⌜ r ≡ coverOr0 self (line .0) ⌝ }
+    {
+        let n = line.0;
+        if self.is_good() & ((1 <= n) & (n as u32 <= self.lines_to(self.total as u16))) {
+            ((n - 1) / self.lines + 1) as u8
+        } else {
+            0
+        }
+    }
+
+    // Whether an accepted file is a segment of this slate's frame.
+    pub fn matches(self, f: Facts) -> bool
+        ensures { λ r. ⌜ r ≡ matching self f ⌝ }
+    {
+        self.same_shot(f) & self.same_cut(f)
+    }
+
+    fn same_shot(self, f: Facts) -> bool
+        ensures { λ r. ⌜ r ≡ sameShot self f ⌝ }
+    {
+        (f.satellite == self.satellite)
+            & (f.day == self.day)
+            & (f.timeline == self.timeline)
+            & (f.band == self.band)
+            & (f.area == self.area)
+    }
+
+    fn same_cut(self, f: Facts) -> bool
+        ensures { λ r. ⌜ r ≡ sameCut self f ⌝ }
+    {
+        let stated = f.first as usize;
+        let number = f.number;
+        let height = self.height_of(number);
+        let first = self.lines_to(down(number as u16)) as usize + 1;
+        (f.columns == self.columns)
+            & (f.total == self.total)
+            & (f.lines == height)
+            & (stated == first)
+    }
+}
+
+fn product(a: u32, b: u16) -> usize
+    ensures { λ r. ⌜ (r ≡ a * b) × (r ≤ 281470681677825) ⌝ }
+{
+    a as usize * b as usize
+}
+
+// The number before one; none is before 0.
+fn down(n: u16) -> u16
+    ensures { λ r. ⌜ r ≡ n - 1 ⌝ }
+{
+    if n < 1 { 0 } else { n - 1 }
+}
+
+// The four letters of an area.
+fn letters(area: u32) -> [u8; 4]
+    ensures { λ r. ⌜ r ≡ digits 1 4 area ⌝ }
+{
+    let mut text = [0u8; 4];
+    wire::put_u32(&mut text, 0, area, 1);
+    text
+}
