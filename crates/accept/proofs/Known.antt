@@ -3,7 +3,7 @@
 use mathlib.Core.Path.{_≡_}
 use mathlib.Core.Bool.{and-eq-true-iff}
 use mathlib.Core.List.{List}
-use Prim.Native.Nat.{ℕ, _+_, _*_, _-_, _≤_}
+use Prim.Native.Nat.{ℕ, _-_, _≤_}
 use native.Mathlib.Omega.{arith}
 use borrow.Author.Tests.{leb-true}
 use lib.ListN.{length}
@@ -13,7 +13,7 @@ use Rattle.header.specs.Places.{lengthOf, dataLength}
 use Rattle.header.specs.Values.{block2Of, block7Of}
 use Rattle.accept.specs.Checks.{checks, fields7}
 use Rattle.accept.specs.Answers.{factsOf}
-use Rattle.accept.proofs.Tables.{Accepted, accepted}
+use Rattle.accept.proofs.Tables.{accepted}
 
 pub record Known (s : List ℕ) : Type 0 where
   -- the number is one of the total's

@@ -1,9 +1,9 @@
 -- Laws on the cut of a slate. The first part opens its definitions; the second, and every other file, knows only the first.
 -- Assumes nothing.
-use mathlib.Core.Path.{_≡_, refl, sym, ap, _∙_}
+use mathlib.Core.Path.{_≡_}
 use mathlib.Core.Logic.{⊎-elim}
 use mathlib.Core.Bool.{true, _&&_, and-eq-true-iff}
-use Prim.Native.Nat.{ℕ, zero, suc, _+_, _*_, _-_, _/_, _%_, _<_, _≤_}
+use Prim.Native.Nat.{ℕ, zero, suc, _+_, _*_, _-_, _/_, _<_, _≤_}
 use native.Mathlib.Nat.{eq-or-lt-of-le, le-of-suc-le-suc, le-trans, mul-le-mul-left, mul-le-mul-right, suc-mul, add-mul, mod-lt, div-add-mod', div-lt-iff-lt-mul}
 use native.Mathlib.Numerals.{add-one}
 use native.Mathlib.Omega.{arith}
@@ -11,7 +11,7 @@ use lib.Dec.{leb}
 use borrow.Author.Tests.{leb-true}
 use Rattle.format.specs.Ranges.{goodSize, goodTotal}
 use Rattle.slate.specs.Cut.{heightOf, linesTo, goodCut, coverOf}
-use Rattle.slate.specs.Slates.{goodShot, goodSlate, sizeOf, startOf, frameLines, frameSize, inFrame}
+use Rattle.slate.specs.Slates.{goodShot, goodSlate, sizeOf, startOf, frameLines, frameSize, hasLine}
 use Rattle.slate.specs.declared.Slate.{Slate}
 
 -- a product of two bounded numbers
@@ -105,9 +105,9 @@ pub record Inside (s : Slate) (line : ℕ) : Type 0 where
   pub last : line ≤ frameLines s
   pub cover : Covers s line (coverOf s line)
 
-pub inside : (s : Slate) (line : ℕ) → (goodSlate s && inFrame s line) ≡ true → Inside s line
+pub inside : (s : Slate) (line : ℕ) → hasLine s line ≡ true → Inside s line
 inside s line e =
-    let e1 = and-eq-true-iff (goodSlate s) (inFrame s line) .0 e in
+    let e1 = and-eq-true-iff (goodSlate s) (leb 1 line && leb line (frameLines s)) .0 e in
     let e2 = and-eq-true-iff (leb 1 line) (leb line (frameLines s)) .0 (e1 .1) in
     let a = leb-true 1 line (e2 .0) in
     let b = leb-true line (frameLines s) (e2 .1) in

@@ -58,13 +58,13 @@ frameSize s = frameLines s * s .columns
 abbrev pub placeOf : Slate → ℕ → ℕ → ℕ
 placeOf s line column = (line - 1) * s .columns + (column - 1)
 
--- a line is one of the frame's
-abbrev pub inFrame : Slate → ℕ → Bool
-inFrame s line = leb 1 line && leb line (frameLines s)
+-- the slate is good, and the line one of its frame's
+abbrev pub hasLine : Slate → ℕ → Bool
+hasLine s line = goodSlate s && (leb 1 line && leb line (frameLines s))
 
--- the number of the segment that covers a line of a good slate's frame, and else 0
+-- the number of the segment that covers the line, and 0 where there is none
 unfoldable pub coverOr0 : Slate → ℕ → ℕ
-coverOr0 s line = cond (goodSlate s && inFrame s line) (coverOf s line) 0
+coverOr0 s line = cond (hasLine s line) (coverOf s line) 0
 
 -- ---- the match
 

@@ -8,7 +8,7 @@ ghost use Prim.Native.Nat.{_+_, _*_, _-_, _≤_};
 ghost use Rattle.wire.specs.Wire.{digits};
 ghost use Rattle.rules.specs.Rules.{paper, judge};
 ghost use Rattle.slate.specs.Cut.{heightOf, linesTo, goodCut};
-ghost use Rattle.slate.specs.Slates.{goodSlate, slated, paperSlate, slateOf, sizeOf, startOf, frameLines, frameSize, placeOf, coverOr0, sameShot, sameCut, matching};
+ghost use Rattle.slate.specs.Slates.{goodSlate, slated, paperSlate, slateOf, sizeOf, startOf, frameLines, frameSize, placeOf, hasLine, coverOr0, sameShot, sameCut, matching};
 
 // A line and a column of the frame, both counted from 1; neither stands for the other.
 pub struct Line(pub u16);
@@ -157,13 +157,20 @@ impl Slate {
         product(down(line.0) as u32, self.columns) + down(column.0) as usize
     }
 
-    // The number of the segment that covers a line; 0 for a bad slate and for a line outside the frame.
+    // Whether the slate is good and the line one of its frame's.
+    pub fn has_line(self, line: Line) -> bool
+        ensures { λ r. ⌜ r ≡ hasLine self (line .0) ⌝ }
+    {
+        let n = line.0 as u32;
+        self.is_good() & ((1 <= n) & (n <= self.lines_to(self.total as u16)))
+    }
+
+    // The number of the segment that covers a line; 0 where there is none.
     pub fn cover_of(self, line: Line) -> u8
         ensures { λ r. ⌜ r ≡ coverOr0 self (line .0) ⌝ }
     {
-        let n = line.0;
-        if self.is_good() & ((1 <= n) & (n as u32 <= self.lines_to(self.total as u16))) {
-            ((n - 1) / self.lines + 1) as u8
+        if self.has_line(line) {
+            ((line.0 - 1) / self.lines + 1) as u8
         } else {
             0
         }

@@ -1,4 +1,4 @@
-use mathlib.Core.Path.{_≡_, refl, sym, ap, _∙_}
+use mathlib.Core.Path.{_∙_}
 use mathlib.Core.List.{append-nil}
 use Rattle.wire.proofs.Stores.{front}
 use native.Mathlib.Omega.{arith}

@@ -1,7 +1,5 @@
-use mathlib.Core.Path.{_≡_, refl, sym, ap, _∙_}
 use Rattle.slate.specs.Slates.{slated}
 use Rattle.rules.proofs.Judge.{judged, also, none}
-use native.Mathlib.Omega.{arith}
 use borrow.Author.Needs.{needs}
 use Rattle.slate.proofs.Slate.check.Statement.{statement}
 use Rattle.slate.proofs.Slate.check.Tie as tie

@@ -1,5 +1,4 @@
-use mathlib.Core.Path.{_≡_, refl, sym, ap, _∙_}
-use native.Mathlib.Omega.{arith}
+use mathlib.Core.Path.{_∙_}
 use borrow.Author.Needs.{needs}
 use Rattle.slate.proofs.Slate.frame_size.Statement.{statement}
 use Rattle.slate.proofs.Slate.frame_size.Tie as tie

@@ -1,6 +1,4 @@
-use mathlib.Core.Path.{_≡_, refl, sym, ap, _∙_}
 use Rattle.slate.specs.Cut.{goodCut}
-use native.Mathlib.Omega.{arith}
 use borrow.Author.Needs.{needs}
 use Rattle.slate.proofs.Slate.good_cut.Statement.{statement}
 use Rattle.slate.proofs.Slate.good_cut.Tie as tie

@@ -1,7 +1,5 @@
 use mathlib.Core.Path.{refl}
 use Rattle.slate.specs.Cut.{heightOf}
-use native.Mathlib.Omega.{arith}
-use borrow.Author.Needs.{needs}
 use Rattle.slate.proofs.Slate.height_of.Statement.{statement}
 use Rattle.slate.proofs.Slate.height_of.Tie as tie
 

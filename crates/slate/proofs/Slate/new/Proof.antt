@@ -1,7 +1,6 @@
-use mathlib.Core.Path.{_≡_, refl, sym, ap, _∙_}
+use mathlib.Core.Path.{sym, ap, _∙_}
 use Rattle.rules.specs.Rules.{paper, reply}
 use Rattle.slate.specs.Slates.{paperSlate, slateOf}
-use native.Mathlib.Omega.{arith}
 use borrow.Author.Needs.{needs}
 use Rattle.slate.proofs.Slate.new.Statement.{statement}
 use Rattle.slate.proofs.Slate.new.Tie as tie

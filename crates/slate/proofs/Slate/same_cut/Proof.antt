@@ -1,5 +1,4 @@
 use Rattle.slate.specs.Slates.{sameCut}
-use native.Mathlib.Omega.{arith}
 use borrow.Author.Needs.{needs}
 use Rattle.slate.proofs.Slate.same_cut.Statement.{statement}
 use Rattle.slate.proofs.Slate.same_cut.Tie as tie

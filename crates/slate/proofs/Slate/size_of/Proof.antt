@@ -1,5 +1,4 @@
-use mathlib.Core.Path.{_≡_, refl, sym, ap, _∙_}
-use native.Mathlib.Omega.{arith}
+use mathlib.Core.Path.{_∙_}
 use borrow.Author.Needs.{needs}
 use Rattle.slate.proofs.Slate.size_of.Statement.{statement}
 use Rattle.slate.proofs.Slate.size_of.Tie as tie
