@@ -30,7 +30,7 @@ pub struct Held {
 // ---- the record
 
 // With no segment in.
-fn empty() -> Record
+pub fn empty() -> Record
     ensures { λ r. ⌜ r .marks ≡ noMarks ⌝ }
 {
     Record { marks: [false; 99] }

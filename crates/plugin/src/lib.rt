@@ -1,4 +1,6 @@
 // What the compositors' plug-in calls from C, thin over the proved library.
+mod strips;
+
 use accept::Answer;
 use calendar::FilmFrame;
 use reading::Calibration;

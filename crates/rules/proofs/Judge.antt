@@ -6,16 +6,27 @@ use mathlib.Core.Logic.{_↔_}
 use mathlib.Core.Bool.{Bool, true, false}
 use Prim.Native.Nat.{ℕ}
 use native.Mathlib.Omega.{arith}
-use Rattle.rules.specs.Rules.{Row, test, Turned, checked, judge, tables, Ruling, fine, refused}
+use Rattle.rules.specs.Rules.{Row, test, Turned, checked, judge, tables, Ruling, fine, refused, Reply, says, refuses, reply}
 
 pub judge-append : (v : Ruling) (xs ys : List Row) → judge v (xs ++ ys) ≡ judge (judge v xs) ys
 judge-append v [] ys = refl
 judge-append v (test ok t ∷ xs) ys = judge-append (checked v ok t) xs ys
 
-judge-refused : (u : Turned) (rs : List Row) → judge (refused u) rs ≡ refused u
+pub judge-refused : (u : Turned) (rs : List Row) → judge (refused u) rs ≡ refused u
 unfolding checked
 judge-refused u [] = refl
 judge-refused u (test ok t ∷ rs) = judge-refused u rs
+
+-- a value is said exactly where nothing is wrong, and a refusal where there is one
+pub said : {A : Type 0} (r : Ruling) (x y : A) → reply r x ≡ says y → (r ≡ fine) × (x ≡ y)
+unfolding reply
+said fine x y e = (refl, cc)
+said (refused t) x y e = absurd (let z : _≡_ {A = ℕ} 0 1 = cc in omega arith)
+
+pub turned-away : {A : Type 0} (r : Ruling) (x : A) (t : Turned) → reply r x ≡ refuses t → r ≡ refused t
+unfolding reply
+turned-away fine x t e = absurd (let z : _≡_ {A = ℕ} 0 1 = cc in omega arith)
+turned-away (refused u) x t e = cc
 
 -- every test of the table holds
 abbrev pub Holds : List Row → Type 0

@@ -1,21 +1,20 @@
 -- Demand 2: accepted exactly when made; what is read writes back, and what is written reads back. Assumes nothing.
 use mathlib.Core.Path.{_≡_, refl, sym, ap, _∙_, subst⁻¹}
 use mathlib.Core.Logic.{_↔_}
-use mathlib.Core.List.{List, [], _∷_, _++_}
+use mathlib.Core.List.{List, _++_}
 use Prim.Native.Nat.{ℕ, zero, suc, _+_, _*_, _-_, _≤_, _<_, _^_}
-use native.Mathlib.Nat.{le-refl}
 use native.Mathlib.Omega.{arith}
 use lib.ListN.{length, drop, replicate, length-drop, length-replicate}
 use borrow.Author.Tests.{leb-true, eqb-true, le-leb, eq-eqb}
-use Rattle.wire.specs.Wire.{Bytes, span, num, tab}
+use Rattle.wire.specs.Wire.{Bytes, span, num}
 use Rattle.wire.proofs.Spans.{length-span}
 use Rattle.wire.proofs.Rows.{tab-lt}
 use Rattle.wire.proofs.Pieces.{num-span-lt}
-use Rattle.rules.specs.Rules.{judge, Ruling, fine, refused, paper, after, says, reply}
+use Rattle.rules.specs.Rules.{judge, fine, paper, after, says, reply}
 use Rattle.rules.specs.declared.Verdict.{Verdict}
-use Rattle.rules.proofs.Judge.{Holds, holds, exactly, each-is, each-of}
+use Rattle.rules.proofs.Judge.{holds, exactly, each-is, each-of, said}
 use Rattle.header.specs.declared.Header.{Header}
-use Rattle.header.specs.Places.{orderOf, aOf, bOf, cOf, at9, at10, at11, headerLength, lengthOf, dataLength}
+use Rattle.header.specs.Places.{orderOf, aOf, bOf, cOf, at9, at10, headerLength, lengthOf, dataLength}
 use Rattle.header.specs.Values.{block1Of, block2Of, block5Of, block7Of, block8Of, headerOf}
 use Rattle.header.specs.Encode.{Entries, encode}
 use Rattle.header.specs.Entries.{column, entriesOf}
@@ -24,7 +23,7 @@ use Rattle.accept.specs.Checks.{checks}
 use Rattle.accept.specs.Answers.{factsOf, answerOf}
 use Rattle.writer.specs.Given.{orders, lengths8, lengths9, lengths10, room, given, ruled, Wrote}
 use Rattle.tiling.specs.Made.{Run, Numbers, Fit, Made, IsAccepted, Readable, Writable}
-use Rattle.accept.proofs.Tables.{Accepted, accepted, accepting, dataOf}
+use Rattle.accept.proofs.Tables.{Accepted, accepted, accepting}
 use Rattle.tiling.proofs.Back as back
 use Rattle.tiling.proofs.Forth as forth
 use Rattle.tiling.proofs.Forth.{Good}
@@ -179,14 +178,9 @@ module _ (s : List ℕ) (b : Bytes s) where
       }
 
 -- the answer is an acceptance exactly when no check fails
-is-fine : (r : Ruling) (x f : Facts) → reply r x ≡ says f → r ≡ fine
-unfolding reply
-is-fine fine x f e = refl
-is-fine (refused t) x f e = absurd (let z : _≡_ {A = ℕ} 0 1 = cc in omega arith)
-
 says-fine : (s : List ℕ) (f : Facts) → answerOf s ≡ says f → judge fine (checks s) ≡ fine
 unfolding answerOf
-says-fine s f e = is-fine (judge fine (checks s)) (factsOf s) f e
+says-fine s f e = said (judge fine (checks s)) (factsOf s) f e .0
 
 accepted-fine : (s : List ℕ) → IsAccepted s → judge fine (checks s) ≡ fine
 accepted-fine s e = says-fine s (factsOf s) e
