@@ -1,0 +1,3 @@
+-- The theorems, from lists to demand 3.
+pub mod Joined
+pub mod Order
