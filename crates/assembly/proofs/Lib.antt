@@ -1,3 +1,4 @@
 -- The theorems, from lists to demand 3.
 pub mod Joined
 pub mod Order
+pub mod Demand

@@ -7,8 +7,8 @@ use mathlib.Core.List.{List, [], _∷_, _++_}
 use Prim.Native.Nat.{ℕ, zero, suc, _+_, _*_, _-_, _<_, _≤_}
 use native.Mathlib.Nat.{eq-or-lt-of-le, le-of-suc-le-suc, add-mul}
 use native.Mathlib.Omega.{arith}
-use borrow.Author.Tests.{eq-eqb, eqb-true, le-leb}
-use lib.Dec.{eqb}
+use borrow.Author.Tests.{eq-eqb, eqb-true, le-leb, leb-true, leb-false}
+use lib.Dec.{eqb, leb}
 use lib.ListN.{length, take, drop, getD, set, replicate, length-replicate, replicate-append-replicate, List·getD-append}
 use lib.Seq.{getD-at, set-split, append-snoc}
 use Rattle.rules.specs.Rules.{turned, checked, Ruling, fine, refused, judge, after}
@@ -30,7 +30,7 @@ use Rattle.assembly.proofs.Joined.{sizes, sizes-even, joined-ext, joine
 
 -- ---- tests
 
-not-so : (b : Bool) → (b ≡ true → ⊥) → b ≡ false
+pub not-so : (b : Bool) → (b ≡ true → ⊥) → b ≡ false
 not-so true h = absurd (h refl)
 not-so false h = refl
 
@@ -144,12 +144,22 @@ marks-none s fs =
     clear-all (marksOf s fs) (s .total) (99 - s .total)
     (λ j a b. row-at (λ k. came s k fs) 99 j (omega arith) ∙ came-within s (suc j) fs (omega arith))
 
-pub marks-marked : (s : Slate) (fs : List File) (k : ℕ) → 1 ≤ k → k ≤ 99 → marked (marksOf s fs) k ≡ came s k fs
+-- nor 0
+came-some : (s : Slate) (fs : List File) → came s 0 fs ≡ false
+came-some s [] = refl
+came-some s (f ∷ fs) =
+    rw (came-some s fs)
+    (not-so (bears s 0 f) (λ e. let b = bears-true s 0 f e in let n = b .number in let l = matches s f (b .good) (b .match) .some in omega arith))
+
+-- a number is marked exactly where it came
+pub marks-marked : (s : Slate) → goodSlate s ≡ true → (fs : List File) (k : ℕ) → marked (marksOf s fs) k ≡ came s k fs
 unfolding marked
-marks-marked s fs zero a b = absurd (omega arith)
-marks-marked s fs (suc k) a b =
-    let e : suc k - 1 ≡ k = omega arith in
-    rw (le-leb 1 (suc k) a, le-leb (suc k) 99 b, e) (row-at (λ j. came s j fs) 99 k b)
+marks-marked s ok fs zero = sym (came-some s fs)
+marks-marked s ok fs (suc k) = rw (le-leb 1 (suc k) (omega arith)) (go (leb (suc k) 99) refl)
+  where
+    go : (b : Bool) → leb (suc k) 99 ≡ b → (b && getD (marksOf s fs) (suc k - 1) false) ≡ came s (suc k) fs
+    go true e = let i : suc k - 1 ≡ k = omega arith in rw i (row-at (λ j. came s j fs) 99 k (leb-true (suc k) 99 e))
+    go false e = sym (came-within s (suc k) fs (omega (arith, good s ok .most, leb-false (suc k) 99 e)))
 
 -- the file's own verdict, and then 15 and 16
 abbrev pub settle : Ruling → Bool → Bool → Ruling
@@ -174,10 +184,7 @@ module _ (s : Slate) (ok : goodSlate s ≡ true) (fs : List File) (f : File) whe
       go : (v : Ruling) (m : Bool) → judge fine (checks f) ≡ v → matching s (factsOf f) ≡ m
           → settle v m (not (marked (marksOf s fs) (factsOf f .number))) ≡ settle v m (not (came s (factsOf f .number) fs))
       go fine true eg em =
-          let m = matches s f eg em in
-          let a = m .most in
-          let t = good s ok .most in
-          rw (marks-marked s fs (factsOf f .number) (m .some) (omega arith))
+          rw (marks-marked s ok fs (factsOf f .number))
       go fine false eg em = refl
       go (refused t) true eg em = refl
       go (refused t) false eg em = refl

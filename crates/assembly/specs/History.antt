@@ -87,6 +87,13 @@ abbrev pub segment : Slate → List File → ℕ → List ℕ
 segment s [] k = empty s k
 segment s (f ∷ fs) k = cond (not (came s k fs) && bears s k f) (countsOf f) (segment s fs k)
 
+-- where the counts of segment k come from: a file of the history that bears k
+pub record Source (s : Slate) (k : ℕ) (fs : List File) : Type 0 where
+  pub file : File
+  pub member : List·Memᴰ file fs
+  pub bearing : bears s k file ≡ true
+  pub counts : segment s fs k ≡ countsOf file
+
 -- segments 1 to n, one after the other
 abbrev pub joined : {A : Type 0} → (ℕ → List A) → ℕ → List A
 joined g zero = []
