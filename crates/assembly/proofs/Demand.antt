@@ -3,10 +3,10 @@
 use mathlib.Core.Path.{_≡_, refl, sym, ap, _∙_}
 use mathlib.Core.Bool.{Bool, true, false, not, cond, _&&_, _||_, false≢true, true≢false, or-true, and-false}
 use mathlib.Core.List.{List, [], _∷_, map, List·Memᴰ, List·Memᴰ·head, List·Memᴰ·tail, List·Permᴰ, List·Permᴰ·nil, List·Permᴰ·cons, List·Permᴰ·swap, List·Permᴰ·trans, Permᴰ·symm}
-use Prim.Native.Nat.{ℕ, zero, suc, _+_, _*_, _-_, _<_, _≤_}
-use native.Mathlib.Nat.{suc-mul, add-mul, add-zero, mul-le-mul-right, not-suc-le-zero, le-of-suc-le-suc}
+use Prim.Native.Nat.{ℕ, zero, suc, _+_, _*_, _-_, _≤_}
+use native.Mathlib.Nat.{suc-mul, add-mul, add-zero, mul-le-mul-right}
 use native.Mathlib.Omega.{arith}
-use borrow.Author.Tests.{eq-eqb, eqb-true, le-leb, lt-leb}
+use borrow.Author.Tests.{eq-eqb, eqb-true, le-leb}
 use lib.Dec.{eqb, leb}
 use lib.ListN.{length, take, drop, replicate}
 use Rattle.rules.specs.Rules.{turned, checked, Ruling, fine, refused, judge}
@@ -15,15 +15,15 @@ use Rattle.accept.specs.Checks.{checks}
 use Rattle.accept.specs.Answers.{factsOf}
 use Rattle.slate.specs.declared.Slate.{Slate}
 use Rattle.slate.specs.Cut.{heightOf, linesTo, coverOf}
-use Rattle.slate.specs.Slates.{goodSlate, sizeOf, frameLines, frameSize, placeOf, hasLine, matching}
+use Rattle.slate.specs.Slates.{goodSlate, sizeOf, frameLines, frameSize, matching}
 use Rattle.slate.proofs.Cuts.{lines-more, Covers, covers, good}
 use Rattle.frame.specs.Counts.{countsOf}
 use Rattle.frame.specs.Records.{marked, noneAbove}
 use Rattle.frame.specs.Frames.{unwritten}
 use Rattle.frame.specs.Lines.{lineGood, lineOf}
-use Rattle.assembly.specs.History.{File, heldAfter, answer, answers, isFine, placed, bears, came, bearers, Apart, Agree, alone, empty, segment, Source, joined, lineIn, withinOf}
+use Rattle.assembly.specs.History.{File, heldAfter, answer, answers, isFine, placed, bears, came, bearers, Apart, Agree, alone, empty, segment, Source, lineIn, withinOf}
 use Rattle.assembly.proofs.Joined.{joined-ext, joined-part}
-use Rattle.assembly.proofs.Order.{not-so, settle, sizes-lines, closed, answered, frame-length, segment-length, marks-none, marks-marked, bears-is}
+use Rattle.assembly.proofs.Order.{settle, sizes-lines, closed, answered, frame-length, segment-length, marks-none, marks-marked, bears-is}
 
 -- ---- what order cannot change
 

@@ -1,15 +1,16 @@
 -- Laws on lists that are joined from segments of known sizes. The sizes are any: `z k` is that of segment k.
+-- Assumes nothing.
 use mathlib.Core.Path.{_≡_, refl, sym, ap, _∙_}
 use mathlib.Core.Logic.{⊎-elim}
-use mathlib.Core.Bool.{Bool, true, false, cond}
-use mathlib.Core.List.{List, [], _∷_, _++_, append-nil, append-assoc}
-use Prim.Native.Nat.{ℕ, zero, suc, _+_, _*_, _-_, _<_, _≤_}
+use mathlib.Core.Bool.{cond}
+use mathlib.Core.List.{List, _++_, append-nil, append-assoc}
+use Prim.Native.Nat.{ℕ, zero, suc, _+_, _*_, _<_, _≤_}
 use native.Mathlib.Nat.{eq-or-lt-of-le, le-of-suc-le-suc, suc-mul}
 use native.Mathlib.Omega.{arith}
 use borrow.Author.Tests.{eq-eqb, ne-eqb}
 use lib.Dec.{eqb}
-use lib.ListN.{length, take, drop, getD, length-append, length-drop, drop-of-length-le}
-use lib.Seq.{take-append-le, drop-append-le, take-at, drop-at, drop-append-add, take-all, drop-length, getD-append-seam}
+use lib.ListN.{length, take, drop, length-append, length-drop, drop-of-length-le}
+use lib.Seq.{take-append-le, drop-append-le, take-at, drop-append-add}
 use Rattle.frame.specs.Frames.{putAt}
 use Rattle.assembly.specs.History.{joined}
 
@@ -17,10 +18,6 @@ use Rattle.assembly.specs.History.{joined}
 abbrev pub sizes : (ℕ → ℕ) → ℕ → ℕ
 sizes z zero = 0
 sizes z (suc n) = sizes z n + z (suc n)
-
--- k is one of 1 to n
-abbrev pub Within : ℕ → ℕ → Type 0
-Within k n = (1 ≤ k) × (k ≤ n)
 
 pub sizes-below : (z : ℕ → ℕ) (k n : ℕ) → k ≤ n → sizes z k ≤ sizes z n
 sizes-below z k zero h = let e : k ≡ 0 = omega arith in rw e (omega arith)
@@ -40,12 +37,9 @@ module _ {A : Type 0} where
   joined-length z g zero e = refl
   joined-length z g (suc n) e = simp length-append (omega (arith, joined-length z g n e, e (suc n)))
 
-  drop-all : (n : ℕ) (l : List A) → length l ≤ n → drop n l ≡ []
-  drop-all n l h = drop-of-length-le l h
-
   -- a segment put in its place
   put-right : (a b v : List A) → length v ≡ length b → putAt (a ++ b) (length a) v ≡ a ++ v
-  put-right a b v e = rw (take-at a b (length a) refl, drop-all (length a + length v) (a ++ b) (simp length-append (omega arith)), append-nil)
+  put-right a b v e = rw (take-at a b (length a) refl, drop-of-length-le (a ++ b) {i = length a + length v} (simp length-append (omega arith)), append-nil)
 
   put-left : (a b v : List A) (at : ℕ) → at + length v ≤ length a → putAt (a ++ b) at v ≡ putAt a at v ++ b
   put-left a b v at h =

@@ -2,3 +2,4 @@
 pub mod Joined
 pub mod Order
 pub mod Demand
+pub mod Copies

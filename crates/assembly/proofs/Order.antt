@@ -3,7 +3,7 @@
 use mathlib.Core.Path.{_≡_, refl, sym, ap, _∙_}
 use mathlib.Core.Logic.{⊎-elim}
 use mathlib.Core.Bool.{Bool, true, false, not, cond, _&&_, _||_, false≢true, and-false, and-eq-true-iff}
-use mathlib.Core.List.{List, [], _∷_, _++_}
+use mathlib.Core.List.{List, [], _∷_}
 use Prim.Native.Nat.{ℕ, zero, suc, _+_, _*_, _-_, _<_, _≤_}
 use native.Mathlib.Nat.{eq-or-lt-of-le, le-of-suc-le-suc, add-mul}
 use native.Mathlib.Omega.{arith}
@@ -25,7 +25,7 @@ use Rattle.frame.specs.Records.{marked, mark, clear, noneAbove}
 use Rattle.frame.specs.Frames.{opening, openFrame, unwritten, ready, placing, offering, offered, putAt, recordAfter, frameAfter}
 use Rattle.frame.proofs.Copying.{counts-length}
 use Rattle.frame.proofs.Putting.{matches}
-use Rattle.assembly.specs.History.{File, State, next, heldAfter, answer, isFine, bears, came, empty, segment, joined}
+use Rattle.assembly.specs.History.{File, State, next, heldAfter, answer, isFine, bears, came, segment, joined}
 use Rattle.assembly.proofs.Joined.{sizes, sizes-even, joined-ext, joined-length, joined-put, with}
 
 -- ---- tests

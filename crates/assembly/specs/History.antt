@@ -5,7 +5,7 @@ use mathlib.Core.Bool.{Bool, true, false, not, cond, _&&_, _||_}
 use mathlib.Core.List.{List, [], _∷_, _++_, List·Memᴰ}
 use lib.ListN.{length, take, drop, replicate}
 use lib.Dec.{eqb}
-use Rattle.rules.specs.Rules.{row, tables, Ruling, fine, refused, judge}
+use Rattle.rules.specs.Rules.{turned, row, tables, Ruling, fine, refused, judge}
 use Rattle.accept.specs.Checks.{checks}
 use Rattle.accept.specs.Answers.{factsOf}
 use Rattle.slate.specs.declared.Slate.{Slate}
@@ -44,6 +44,15 @@ answers s frame (f ∷ fs) = answer s frame fs f ∷ answers s frame fs
 abbrev pub isFine : Ruling → Bool
 isFine fine = true
 isFine (refused t) = false
+
+abbrev pub isAlready : Ruling → Bool
+isAlready fine = false
+isAlready (refused (turned number block)) = eqb number 16
+
+-- how many of the answers are ALREADY
+abbrev pub alreadies : List Ruling → ℕ
+alreadies [] = 0
+alreadies (v ∷ vs) = cond (isAlready v) 1 0 + alreadies vs
 
 -- a file with the number k was placed: it was offered, and nothing was wrong
 abbrev pub placed : Slate → List ℕ → ℕ → List File → Bool
