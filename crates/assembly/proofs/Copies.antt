@@ -101,10 +101,12 @@ module _ (s : Slate) (ok : goodSlate s ≡ true) (frame : List ℕ) (fits : leng
       go fine false o eg em eo ih = let e = same (bears-other s fs f em) in omega arith
       go (refused t) m o eg em eo ih = let e = same (bears-bad s fs f eg) in omega arith
 
-  pub same-total : {fs gs : List File} → List·Permᴰ fs gs → alreadies (answers s frame fs) ≡ alreadies (answers s frame gs)
-  same-total {fs} {gs} p =
-      let a = balance fs in
-      let b = balance gs in
-      let m = weight-perm s p in
-      let t = tally-ext (λ k. came s k fs) (λ k. came s k gs) 99 (λ k _. came-perm s k p) in
-      omega arith
+-- whatever the strips held
+pub same-total : (s : Slate) → goodSlate s ≡ true → (frame other : List ℕ) → length frame ≡ frameSize s → length other ≡ frameSize s
+    → {fs gs : List File} → List·Permᴰ fs gs → alreadies (answers s frame fs) ≡ alreadies (answers s other gs)
+same-total s ok frame other fits fits' {fs} {gs} p =
+    let a = balance s ok frame fits fs in
+    let b = balance s ok other fits' gs in
+    let m = weight-perm s p in
+    let t = tally-ext (λ k. came s k fs) (λ k. came s k gs) 99 (λ k _. came-perm s k p) in
+    omega arith

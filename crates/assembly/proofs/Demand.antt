@@ -88,7 +88,7 @@ segment-perm s k {fs} {gs} p a = go (came s k fs) refl
         v .counts ∙ a k (v .file) (w .file) (v .member) (perm-mem (Permᴰ·symm p) (w .member)) (v .bearing) (w .bearing) ∙ sym (w .counts)
     go false e = missing s k fs e ∙ sym (missing s k gs (sym (came-perm s k p) ∙ e))
 
-member-came : (s : Slate) (k : ℕ) {f : File} {fs : List File} → List·Memᴰ f fs → bears s k f ≡ true → came s k fs ≡ true
+pub member-came : (s : Slate) (k : ℕ) {f : File} {fs : List File} → List·Memᴰ f fs → bears s k f ≡ true → came s k fs ≡ true
 member-came s k (List·Memᴰ·head {xs = xs} e) b = rw (← e, b) (or-true (came s k xs))
 member-came s k (List·Memᴰ·tail m) b = rw (member-came s k m b)
 
@@ -140,18 +140,19 @@ line-within s line g =
 -- ---- the promises, for a good slate and a frame of its size
 
 module _ (s : Slate) (ok : goodSlate s ≡ true) (frame : List ℕ) (fits : length frame ≡ frameSize s) where
-  -- the record and the frame are the same for every order: of copies it is asked that they agree
-  pub same-record : {fs gs : List File} → List·Permᴰ fs gs → heldAfter s frame fs .marks ≡ heldAfter s frame gs .marks
-  same-record {fs} {gs} p =
-      closed s ok frame fits fs .marks
-      ∙ joined-ext (λ k. came s k fs ∷ []) (λ k. came s k gs ∷ []) 99 (λ k _ _. ap (λ (b : Bool). b ∷ []) (came-perm s k p))
-      ∙ sym (closed s ok frame fits gs .marks)
+  -- the record and the frame are the same for every order, and whatever the strip held: of copies it is asked that they agree
+  module _ (other : List ℕ) (fits' : length other ≡ frameSize s) where
+    pub same-record : {fs gs : List File} → List·Permᴰ fs gs → heldAfter s frame fs .marks ≡ heldAfter s other gs .marks
+    same-record {fs} {gs} p =
+        closed s ok frame fits fs .marks
+        ∙ joined-ext (λ k. came s k fs ∷ []) (λ k. came s k gs ∷ []) 99 (λ k _ _. ap (λ (b : Bool). b ∷ []) (came-perm s k p))
+        ∙ sym (closed s ok other fits' gs .marks)
 
-  pub same-frame : {fs gs : List File} → List·Permᴰ fs gs → Agree s fs → heldAfter s frame fs .frame ≡ heldAfter s frame gs .frame
-  same-frame {fs} {gs} p a =
-      closed s ok frame fits fs .frame
-      ∙ joined-ext (segment s fs) (segment s gs) (s .total) (λ k _ _. segment-perm s k p a)
-      ∙ sym (closed s ok frame fits gs .frame)
+    pub same-frame : {fs gs : List File} → List·Permᴰ fs gs → Agree s fs → heldAfter s frame fs .frame ≡ heldAfter s other gs .frame
+    same-frame {fs} {gs} p a =
+        closed s ok frame fits fs .frame
+        ∙ joined-ext (segment s fs) (segment s gs) (s .total) (λ k _ _. segment-perm s k p a)
+        ∙ sym (closed s ok other fits' gs .frame)
 
   -- each file's answer is that of the file alone
   pub same-answers : (fs : List File) → Apart s fs → answers s frame fs ≡ map (alone s) fs
@@ -205,7 +206,7 @@ module _ (s : Slate) (ok : goodSlate s ≡ true) (frame : List ℕ) (fits : leng
   in-record fs k = ap (λ (m : List Bool). marked m k) (closed s ok frame fits fs .marks) ∙ marks-marked s ok fs k
 
   -- and those are the numbers of the placed files
-  pub placed-came : (fs : List File) (k : ℕ) → placed s frame k fs ≡ came s k fs
+  pub placed-came : (fs : List File) (k : ℕ) → placed k fs (answers s frame fs) ≡ came s k fs
   unfolding bears checked
   placed-came [] k = refl
   placed-came (f ∷ fs) k =

@@ -3,3 +3,4 @@ pub mod Joined
 pub mod Order
 pub mod Demand
 pub mod Copies
+pub mod Runs

@@ -55,9 +55,10 @@ alreadies [] = 0
 alreadies (v ∷ vs) = cond (isAlready v) 1 0 + alreadies vs
 
 -- a file with the number k was placed: it was offered, and nothing was wrong
-abbrev pub placed : Slate → List ℕ → ℕ → List File → Bool
-placed s frame k [] = false
-placed s frame k (f ∷ fs) = placed s frame k fs || (isFine (answer s frame fs f) && eqb (factsOf f .number) k)
+abbrev pub placed : ℕ → List File → List Ruling → Bool
+placed k [] vs = false
+placed k (f ∷ fs) [] = false
+placed k (f ∷ fs) (v ∷ vs) = placed k fs vs || (isFine v && eqb (factsOf f .number) k)
 
 -- ---- what it is to amount to, by the files alone
 
