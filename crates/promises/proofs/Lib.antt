@@ -2,3 +2,4 @@
 pub mod OneAnswer
 pub mod Cases
 pub mod Demand2
+pub mod Demand3

@@ -1,11 +1,12 @@
 -- No second answer fits the contract of a public function, and none leaves other bytes in lent memory.
 -- `Post` is the contract as the source has it. Assumes nothing.
-use mathlib.Core.Path.{_≡_, sym, ap, _∙_}
+use mathlib.Core.Path.{sym, _∙_}
 use denote.Ref.{now}
 use Rattle.promises.specs.Answers.{One}
 use Rattle.rules.proofs.Paper.{paper-one}
 use Rattle.calendar.proofs.Paper.{paperDay-one, paperSlot-one, paperFrame-one}
 use Rattle.accept.proofs.Paper.{paperAnswer-one}
+use Rattle.slate.proofs.Paper.{paperSlate-one}
 use Rattle.wire.proofs.byte_at.Reads as byte-at
 use Rattle.wire.proofs.left.Reads as left
 use Rattle.wire.proofs.rest.Reads as rest
@@ -53,6 +54,27 @@ use Rattle.accept.proofs.check_fields5.Reads as check-fields5
 use Rattle.accept.proofs.check_fields7.Reads as check-fields7
 use Rattle.accept.proofs.check_name.Reads as check-name
 use Rattle.accept.proofs.accept.Reads as accept
+use Rattle.accept.proofs.check_file.Reads as check-file
+use Rattle.accept.proofs.facts_of.Reads as facts-of
+use Rattle.slate.proofs.Slate.new.Reads as slate-new
+use Rattle.slate.proofs.Slate.check.Reads as slate-check
+use Rattle.slate.proofs.Slate.is_good.Reads as is-good
+use Rattle.slate.proofs.Slate.height_of.Reads as height-of
+use Rattle.slate.proofs.Slate.lines_to.Reads as lines-to
+use Rattle.slate.proofs.Slate.columns.Reads as slate-columns
+use Rattle.slate.proofs.Slate.total.Reads as slate-total
+use Rattle.slate.proofs.Slate.size_of.Reads as size-of
+use Rattle.slate.proofs.Slate.start_of.Reads as start-of
+use Rattle.slate.proofs.Slate.frame_size.Reads as frame-size
+use Rattle.slate.proofs.Slate.place_of.Reads as place-of
+use Rattle.slate.proofs.Slate.has_line.Reads as has-line
+use Rattle.slate.proofs.Slate.cover_of.Reads as cover-of
+use Rattle.slate.proofs.Slate.matches.Reads as slate-matches
+use Rattle.frame.proofs.is_marked.Reads as is-marked
+use Rattle.frame.proofs.tally.Reads as tally
+use Rattle.frame.proofs.open.Reads as opening
+use Rattle.frame.proofs.offer.Reads as offering
+use Rattle.frame.proofs.line_of.Reads as line-of
 use Rattle.plugin.proofs.hsd_accept.Reads as hsd-accept
 use Rattle.plugin.proofs.hsd_read_count.Reads as hsd-read-count
 use Rattle.plugin.proofs.hsd_frame_number.Reads as hsd-frame-number
@@ -213,6 +235,76 @@ check-name-one κ a x y s t p q = paper-one x y (p ∙ sym q)
 
 pub accept-one : One (λ κ x s. x) accept.Post
 accept-one κ a x y s t p q = paperAnswer-one x y (p ∙ sym q)
+
+pub check-file-one : One (λ κ x s. x) check-file.Post
+check-file-one κ a x y s t p q = paper-one x y (p ∙ sym q)
+
+pub facts-of-one : One (λ κ x s. x) facts-of.Post
+facts-of-one κ a x y s t p q = p ∙ sym q
+
+pub slate-new-one : One (λ κ x s. x) slate-new.Post
+slate-new-one κ a x y s t p q = paperSlate-one x y (p ∙ sym q)
+
+pub slate-check-one : One (λ κ x s. x) slate-check.Post
+slate-check-one κ a x y s t p q = paper-one x y (p ∙ sym q)
+
+pub is-good-one : One (λ κ x s. x) is-good.Post
+is-good-one κ a x y s t p q = p ∙ sym q
+
+pub height-of-one : One (λ κ x s. x) height-of.Post
+height-of-one κ a x y s t p q = p ∙ sym q
+
+pub lines-to-one : One (λ κ x s. x) lines-to.Post
+lines-to-one κ a x y s t p q = p ∙ sym q
+
+pub slate-columns-one : One (λ κ x s. x) slate-columns.Post
+slate-columns-one κ a x y s t p q = p ∙ sym q
+
+pub slate-total-one : One (λ κ x s. x) slate-total.Post
+slate-total-one κ a x y s t p q = p ∙ sym q
+
+pub size-of-one : One (λ κ x s. x) size-of.Post
+size-of-one κ a x y s t p q = p ∙ sym q
+
+pub start-of-one : One (λ κ x s. x) start-of.Post
+start-of-one κ a x y s t p q = p ∙ sym q
+
+pub frame-size-one : One (λ κ x s. x) frame-size.Post
+frame-size-one κ a x y s t p q = p ∙ sym q
+
+pub place-of-one : One (λ κ x s. x) place-of.Post
+place-of-one κ a x y s t p q = p ∙ sym q
+
+pub has-line-one : One (λ κ x s. x) has-line.Post
+has-line-one κ a x y s t p q = p ∙ sym q
+
+pub cover-of-one : One (λ κ x s. x) cover-of.Post
+cover-of-one κ a x y s t p q = p ∙ sym q
+
+pub slate-matches-one : One (λ κ x s. x) slate-matches.Post
+slate-matches-one κ a x y s t p q = p ∙ sym q
+
+pub is-marked-one : One (λ κ x s. x) is-marked.Post
+is-marked-one κ a x y s t p q = p ∙ sym q
+
+pub tally-one : One (λ κ x s. x) tally.Post
+tally-one κ a x y s t p q = p ∙ sym q
+
+-- the verdict with the newest record, and every count of the frame afterwards
+pub opening-one : One (λ κ x s. x) opening.Post × One (λ κ x s. now (s .1 .0)) opening.Post
+opening-one = (
+  λ κ a x y s t p q i. record { verdict = paper-one (x .verdict) (y .verdict) (p .0 ∙ sym (q .0)) i; rec = record { marks = (p .1 .0 ∙ sym (q .1 .0)) i } },
+  λ κ a x y s t p q. p .1 .1 ∙ sym (q .1 .1),
+)
+
+pub offering-one : One (λ κ x s. x) offering.Post × One (λ κ x s. now (s .1 .1 .0)) offering.Post
+offering-one = (
+  λ κ a x y s t p q i. record { verdict = paper-one (x .verdict) (y .verdict) (p .0 ∙ sym (q .0)) i; rec = record { marks = (p .1 .0 ∙ sym (q .1 .0)) i } },
+  λ κ a x y s t p q. p .1 .1 ∙ sym (q .1 .1),
+)
+
+pub line-of-one : One (λ κ x s. now x) line-of.Post
+line-of-one κ a x y s t p q = p ∙ sym q
 
 pub hsd-accept-one : One (λ κ x s. x) hsd-accept.Post
 hsd-accept-one κ a x y s t p q = p ∙ sym q

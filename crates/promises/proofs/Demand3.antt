@@ -1,0 +1,77 @@
+-- Demand 3: a frame opened for a good slate and offered files in any order. `Ran` says that the calls were made: of `open` over a strip of
+-- the slate's size, then of `offer`, each with that same slate, the newest record and the frame as the call before left it.
+-- Assumes nothing.
+use mathlib.Core.Path.{_≡_}
+use mathlib.Core.Bool.{true, false}
+use mathlib.Core.List.{List, List·Memᴰ, List·Permᴰ}
+use Prim.Native.Nat.{ℕ, _≤_}
+use lib.ListN.{length, take, replicate}
+use denote.Ref.{now}
+use Rattle.rules.specs.Rules.{Turned, refused, paper}
+use Rattle.slate.specs.declared.Slate.{Slate}
+use Rattle.slate.specs.Cut.{coverOf}
+use Rattle.slate.specs.Slates.{goodSlate, frameLines, frameSize}
+use Rattle.frame.specs.declared.Record.{Record}
+use Rattle.frame.specs.Counts.{countsOf}
+use Rattle.frame.specs.Records.{marked}
+use Rattle.frame.proofs.offer.Reads as offering
+use Rattle.assembly.specs.History.{File, alreadies, placed, bears, came, Apart, Agree, alone, lineIn, withinOf}
+use Rattle.assembly.specs.Runs.{Call, files, rulings, Ran, Asked}
+use Rattle.assembly.proofs.Demand.{apart-agree}
+use Rattle.assembly.proofs.Runs as runs
+
+-- a refused offer leaves the record and every count of the frame
+pub leaves : (κ : _) (a : _) (r : _) (t : _) (u : Turned) → offering.Post κ a r t → paper (r .verdict) ≡ refused u
+    → (r .rec .marks ≡ a .1 .0 .marks) × (now (t .1 .1 .0) ≡ now (a .1 .1 .0))
+leaves = runs.leaves
+
+-- what is said below of copies that agree holds where no two matching files bear one number
+pub agree : (s : Slate) (fs : List File) → Apart s fs → Agree s fs
+agree = apart-agree
+
+module _ (s : Slate) (ok : goodSlate s ≡ true) (lent : List ℕ) (fits : length lent ≡ frameSize s)
+    {cs : List Call} {newest : Record} {frame : List ℕ} (run : Ran s lent cs newest frame) where
+  -- no two matching files bear one number: then each is answered as if it were alone
+  pub answer : Apart s (files cs) → (c : Call) → List·Memᴰ c cs → paper (c .verdict) ≡ alone s (c .file)
+  answer = runs.by-itself s ok lent fits run
+
+  -- the record equals the numbers of the placed files, and those of the matching files that were offered
+  pub numbers : (k : ℕ) → marked (newest .marks) k ≡ placed k (files cs) (rulings cs)
+  numbers = runs.record-placed s ok lent fits run
+
+  pub coming : (k : ℕ) → marked (newest .marks) k ≡ came s k (files cs)
+  coming = runs.record-is s ok lent fits run
+
+  -- each line holds the counts of the one matching segment that covers it, or 65,534 throughout if that segment never came
+  module _ (line : ℕ) (some : 1 ≤ line) (most : line ≤ frameLines s) where
+    pub line-came : Agree s (files cs) → (f : File) → List·Memᴰ f (files cs) → bears s (coverOf s line) f ≡ true → lineIn s frame line ≡ lineIn s (countsOf f) (withinOf s line)
+    line-came a = runs.line-came s ok lent fits run a line some most
+
+    pub line-missing : came s (coverOf s line) (files cs) ≡ false → lineIn s frame line ≡ replicate (s .columns) 65534
+    line-missing = runs.line-missing s ok lent fits run line some most
+
+    -- asked for, it is that line, or else the first columns of the leader
+    pub asked-came : Agree s (files cs) → {leader part : List ℕ} → Asked s newest frame leader line part
+        → (f : File) → List·Memᴰ f (files cs) → bears s (coverOf s line) f ≡ true → part ≡ lineIn s (countsOf f) (withinOf s line)
+    asked-came a q = runs.asks-came s ok lent fits run a line q some most
+
+    pub asked-missing : {leader part : List ℕ} → Asked s newest frame leader line part
+        → came s (coverOf s line) (files cs) ≡ false → s .columns ≤ length leader → part ≡ take (s .columns) leader
+    asked-missing q = runs.asks-missing s ok lent fits run line q some most
+
+  -- the same files in any other order, over any strip of that size
+  module _ (other : List ℕ) (fits' : length other ≡ frameSize s) {ds : List Call} {newest' : Record} {frame' : List ℕ}
+      (run' : Ran s other ds newest' frame') (order : List·Permᴰ (files cs) (files ds)) where
+    -- each file is answered the same, and the record and the frame are the same
+    pub same-answers : Apart s (files cs) → (c d : Call) → List·Memᴰ c cs → List·Memᴰ d ds → c .file ≡ d .file → c .verdict ≡ d .verdict
+    same-answers = runs.same-verdict s ok lent other fits fits' run run' order
+
+    pub same-record : newest ≡ newest'
+    same-record = runs.same-record s ok lent fits run other fits' run' order
+
+    pub same-frame : Agree s (files cs) → frame ≡ frame'
+    same-frame = runs.same-frame s ok lent fits run other fits' run' order
+
+    -- and as many are told ALREADY, whatever copies there are
+    pub same-total : alreadies (rulings cs) ≡ alreadies (rulings ds)
+    same-total = runs.same-total s ok lent fits run other fits' run' order

@@ -1,0 +1,20 @@
+-- The paper's words tell the answers apart: the way of saying them has an inverse. Assumes nothing.
+use mathlib.Core.Path.{_≡_, refl, sym, ap, _∙_}
+use Rattle.rules.specs.Rules.{Reply, says, refuses}
+use Rattle.rules.proofs.Paper.{refusalOf, refusal-paper}
+use Rattle.slate.specs.declared.Slate.{Slate}
+use Rattle.slate.specs.declared.Slated.{Slated}
+use Rattle.slate.specs.declared.Slated.the-variants.{Made, Refused}
+use Rattle.slate.specs.Slates.{paperSlate}
+
+abbrev slated-as : Reply Slate → Slated
+slated-as (says s) = Made s
+slated-as (refuses t) = Refused (refusalOf t)
+
+slated-back : (r : Slated) → slated-as (paperSlate r) ≡ r
+unfolding paperSlate
+slated-back (Made s) = refl
+slated-back (Refused t) = ap Refused (refusal-paper t)
+
+pub paperSlate-one : (x y : Slated) → paperSlate x ≡ paperSlate y → x ≡ y
+paperSlate-one x y e = sym (slated-back x) ∙ ap slated-as e ∙ slated-back y
