@@ -1,7 +1,8 @@
-//! A second opinion on which satellite files are accepted and which headers are written, from
-//! document 01 alone, and the inputs on which it is compared with the proved library.
+//! A second opinion on which satellite files are accepted, which headers are written and what frames
+//! show, from document 01 alone, and the inputs on which it is compared with the proved library.
 
 pub mod accept;
+pub mod assemble;
 pub mod breach;
 pub mod damage;
 pub mod images;

@@ -1,4 +1,5 @@
-//! The program `testcard`: its segments are good, they join to one picture, and what it cannot write it tells.
+//! The program `testcard`: its segments are good, they join to one picture, and what it cannot write
+//! it tells.
 
 use std::fs::File;
 use std::process::{Command, Output, Stdio};
