@@ -5,11 +5,13 @@ pub mod accept;
 pub mod assemble;
 pub mod breach;
 pub mod damage;
+pub mod histories;
 pub mod images;
 pub mod make;
 pub mod mix;
 pub mod proved;
 pub mod random;
+pub mod takes;
 pub mod values;
 
 pub use accept::{accept, Facts, Refusal};

@@ -3,6 +3,7 @@
 use reference::assemble::{line, offer, open, Record, Slate, MARKS, OUTSIDE};
 use reference::make::{Recipe, Sample};
 use reference::random::Random;
+use reference::takes::{check_orders, Takes};
 use reference::Refusal;
 
 const SLATE: Slate = Slate {
@@ -201,4 +202,13 @@ fn the_record_alone_says_what_has_come() {
     assert_eq!(frame, [OUTSIDE; 24]);
     assert_eq!(line(&SLATE, &marked, &frame, &[1; 4], 1), [OUTSIDE; 4]);
     assert_eq!(line(&SLATE, &marked, &frame, &[1; 4], 3), [1; 4]);
+}
+
+#[test]
+fn the_order_of_files_makes_no_difference() {
+    let takes = Takes::new(0, 500);
+    for case in takes.small..takes.small + takes.shuffled {
+        let history = takes.case(case).history;
+        check_orders(&history, &history.play());
+    }
 }
