@@ -423,8 +423,27 @@ fn alone(history: &History, file: usize) -> Option<(u8, Stage)> {
     Some((facts.number, stage))
 }
 
-/// Ten segments of the size that really comes, shuffled, half of them big-endian, and a stray of ten
-/// minutes later among them.
+/// Ten segments of the size that really comes, half of them big-endian, and a stray of ten minutes
+/// later.
+fn disk_files(shot: &Recipe, random: &mut Random) -> Vec<Vec<u8>> {
+    let mut files = Vec::new();
+    for number in 1..=10 {
+        let recipe = Recipe {
+            order: number % 2,
+            ..segment(shot, number, random)
+        };
+        files.push(Sample::make(&recipe, random));
+    }
+    let stray = Recipe {
+        timeline: 210,
+        ..any_segment(shot, random)
+    };
+    files.push(Sample::make(&stray, random));
+    shuffle(&mut files, random);
+    bytes_of(files)
+}
+
+/// After each file some lines are asked for, from every segment.
 fn full_disk(random: &mut Random) -> History {
     let shot = Recipe {
         columns: 5_500,
@@ -432,28 +451,14 @@ fn full_disk(random: &mut Random) -> History {
         total: 10,
         ..Recipe::plain()
     };
-    let mut recipes: Vec<Recipe> = (1..=10)
-        .map(|number| Recipe {
-            order: number % 2,
-            ..segment(&shot, number, random)
-        })
-        .collect();
-    let number = random.within(1, 10);
-    recipes.push(Recipe {
-        timeline: 210,
-        ..segment(&shot, number, random)
-    });
-    shuffle(&mut recipes, random);
     let slate = slate_of(&shot);
+    let files = disk_files(&shot, random);
     let mut steps = vec![Step::Open];
-    for file in 0..recipes.len() as u16 {
+    for file in 0..files.len() as u16 {
         steps.push(Step::Offer(file));
-        let lines = (1..=5_500).step_by(275);
-        steps.extend(lines.map(Step::Line));
+        steps.extend((1..=5_500).step_by(275).map(Step::Line));
     }
     steps.extend([Step::Line(5_500), Step::Line(5_501)]);
-    let files = recipes.iter().map(|recipe| Sample::make(recipe, random));
-    let files = bytes_of(files.collect());
     History {
         slate,
         stage: Stage {

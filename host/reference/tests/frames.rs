@@ -25,12 +25,10 @@ fn main() {
     let (tell, told) = sync_channel(100);
     let asking = Arc::clone(&takes);
     let asker = thread::spawn(move || {
-        for number in 0..asking.cases() {
-            let take = asking.case(number);
+        for take in (0..asking.cases()).map(|number| asking.case(number)) {
+            let asked = requests.ask_history(&take.history);
+            asked.expect("the bridge reads");
             let played = take.history.play();
-            requests
-                .ask_history(&take.history)
-                .expect("the bridge reads");
             tell.send((take, played)).expect("it is compared");
         }
         requests.end().expect("the bridge reads");
@@ -49,12 +47,7 @@ fn main() {
     }
     asker.join().expect("every history was asked");
     assert!(answers.ended_well(), "the bridge did not end well");
-    tally.print();
-    println!(
-        "{} histories compared in {:.1} s",
-        tally.histories,
-        began.elapsed().as_secs_f64()
-    );
+    tally.print(began.elapsed().as_secs_f64());
     tally.check(takes.small / 200);
 }
 
@@ -120,7 +113,7 @@ impl Tally {
         }
     }
 
-    fn print(&self) {
+    fn print(&self, seconds: f64) {
         for (kind, times) in &self.kinds {
             println!("{times:>9}  {kind}");
         }
@@ -131,6 +124,7 @@ impl Tally {
         for ((what, refusal), times) in &self.answers {
             println!("{times:>9}  {what}, {refusal}");
         }
+        println!("{} histories compared in {seconds:.1} s", self.histories);
     }
 
     /// No answer that can be given may be missing or rare, and no other may be given.
