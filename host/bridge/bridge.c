@@ -1,8 +1,9 @@
 /* The proved library as a server on standard input and output, so that a test in another language, or on
    another processor, can ask it. A request is a length, eight bytes with the lowest first, and so many bytes;
    the answer is an HsdFile as it stands in memory. With the length's top bit set the answer is instead how many
-   nanoseconds hsd_accept takes on those bytes, as a double. Built with the kit's own compiler, which has no
-   headers: what is used of C is declared here. */
+   nanoseconds hsd_accept takes on those bytes, as a double. With only the next bit set the request is a History,
+   and the answer what each of its steps answers. Built with the kit's own compiler, which has no headers: what is
+   used of C is declared here. */
 typedef unsigned char u8;
 typedef unsigned short u16;
 typedef unsigned int u32;
@@ -21,17 +22,35 @@ typedef struct HsdFile {
     double gain, constant;
 } HsdFile;
 
+typedef struct HsdSlate {
+    u8 satellite, total;
+    u16 timeline, band, columns, lines;
+    u32 day, area;
+} HsdSlate;
+
+typedef struct HsdAnswer {
+    u8 refusal, block;
+} HsdAnswer;
+
 HsdFile hsd_accept(const u8 *file, u64 length);
+HsdAnswer hsd_open(HsdSlate slate, u8 *marks, u64 marks_length, u16 *frame, u64 frame_length);
+HsdAnswer hsd_offer(HsdSlate slate, u8 *marks, u64 marks_length, u16 *frame, u64 frame_length, const u8 *file,
+                    u64 file_length);
+u64 hsd_line(HsdSlate slate, const u8 *marks, u64 marks_length, const u16 *frame, u64 frame_length, const u16 *leader,
+             u64 leader_length, u16 line, u16 *out, u64 out_length);
 
 struct timespec { long seconds, nanoseconds; };
 int clock_gettime(int clock, struct timespec *now);
 long read(int from, void *bytes, u64 length);
 long write(int to, const void *bytes, u64 length);
 void *realloc(void *old, u64 length);
+void exit(int status) __attribute__((noreturn));
 void *memset(void *bytes, int value, u64 length);
+void *memcpy(void *to, const void *from, u64 length);
 
-static int read_all(u8 *bytes, u64 length)
+static int read_all(void *what, u64 length)
 {
+    u8 *bytes = what;
     while (length > 0) {
         long got = read(0, bytes, length);
         if (got <= 0)
@@ -42,17 +61,25 @@ static int read_all(u8 *bytes, u64 length)
     return 1;
 }
 
-static int write_all(const void *what, u64 length)
+static void write_all(const void *what, u64 length)
 {
     const u8 *bytes = what;
     while (length > 0) {
         long put = write(1, bytes, length);
         if (put <= 0)
-            return 0;
+            exit(1);
         bytes += put;
         length -= (u64)put;
     }
-    return 1;
+}
+
+/* Room for so many bytes, never a null pointer; what was at the old place may move. */
+static void *room(void *old, u64 length)
+{
+    void *bytes = realloc(old, length + 1);
+    if (!bytes)
+        exit(1);
+    return bytes;
 }
 
 static double now(void)
@@ -80,49 +107,140 @@ static double nanoseconds(const u8 *file, u64 length)
     return best;
 }
 
-/* Answers wait until this many bytes are there, or until the requests pause on a timed one. */
-static u8 answers[48 * 1024];
+/* Answers wait until they fill this, or until a history ends. */
+static u8 answers[64 * 1024];
 static u64 waiting;
 
-static int answer(const void *what, u64 length)
+static void flush(void)
 {
-    const u8 *bytes = what;
-    for (u64 i = 0; i < length; i++)
-        answers[waiting + i] = bytes[i];
-    waiting += length;
-    if (waiting + 48 <= sizeof answers)
-        return 1;
-    u64 ready = waiting;
+    write_all(answers, waiting);
     waiting = 0;
-    return write_all(answers, ready);
+}
+
+static void answer(const void *what, u64 length)
+{
+    if (length > sizeof answers - waiting)
+        flush();
+    if (length > sizeof answers) {
+        write_all(what, length);
+        return;
+    }
+    memcpy(answers + waiting, what, length);
+    waiting += length;
+}
+
+static void accepted(const u8 *file, u64 length, int timed)
+{
+    if (timed) {
+        double took = nanoseconds(file, length);
+        answer(&took, sizeof took);
+    } else {
+        HsdFile out;
+        memset(&out, 0, sizeof out);
+        out = hsd_accept(file, length);
+        answer(&out, sizeof out);
+    }
+}
+
+/* One frame, step by step. These numbers say how many there are of each: files' lengths follow, eight bytes each, then
+   frame, leader, steps, marks, and the bytes of all files. A step to open or to offer answers an HsdAnswer and, where it
+   is watched, frame and marks. A line answers how many counts it has and the output, filled with 0xaa before. At the end
+   come frame and marks. */
+typedef struct History {
+    HsdSlate slate;
+    u32 watched;
+    u64 files, frame, leader, steps, marks, out;
+} History;
+
+typedef struct Step {
+    u16 kind, of;
+} Step;
+
+enum { OPEN, OFFER, LINE };
+
+/* Where what is lent stands. */
+typedef struct Stage {
+    u64 *lengths;
+    u16 *frame, *leader;
+    Step *steps;
+    u8 *marks, *files;
+    u16 *out;
+} Stage;
+
+static Stage stage_of(History *h)
+{
+    static u16 *out;
+    Stage s;
+    s.lengths = (u64 *)(h + 1);
+    s.frame = (u16 *)(s.lengths + h->files);
+    s.leader = s.frame + h->frame;
+    s.steps = (Step *)(s.leader + h->leader);
+    s.marks = (u8 *)(s.steps + h->steps);
+    s.files = s.marks + h->marks;
+    s.out = out = room(out, 2 * h->out);
+    return s;
+}
+
+static HsdAnswer offer(const History *h, Stage s, u16 number)
+{
+    u8 *file = s.files;
+    for (u16 i = 0; i < number; i++)
+        file += s.lengths[i];
+    return hsd_offer(h->slate, s.marks, h->marks, s.frame, h->frame, file, s.lengths[number]);
+}
+
+static void ask_line(const History *h, Stage s, u16 line)
+{
+    memset(s.out, 0xaa, 2 * h->out);
+    u64 counts = hsd_line(h->slate, s.marks, h->marks, s.frame, h->frame, s.leader, h->leader, line, s.out, h->out);
+    answer(&counts, sizeof counts);
+    answer(s.out, 2 * h->out);
+}
+
+static void show(const History *h, Stage s)
+{
+    answer(s.frame, 2 * h->frame);
+    answer(s.marks, h->marks);
+}
+
+static void take(const History *h, Stage s, Step step)
+{
+    if (step.kind == LINE) {
+        ask_line(h, s, step.of);
+        return;
+    }
+    HsdAnswer told = step.kind == OFFER ? offer(h, s, step.of)
+                                        : hsd_open(h->slate, s.marks, h->marks, s.frame, h->frame);
+    answer(&told, sizeof told);
+    if (h->watched)
+        show(h, s);
+}
+
+static void play(History *h)
+{
+    Stage s = stage_of(h);
+    for (u64 i = 0; i < h->steps; i++)
+        take(h, s, s.steps[i]);
+    show(h, s);
+    flush();
 }
 
 int main(void)
 {
-    u8 *file = 0;
-    u64 room = 0, length;
-    while (read_all((u8 *)&length, 8)) {
-        u64 timed = length >> 63;
-        length = length << 1 >> 1;
-        if (length > room) {
-            room = length;
-            file = realloc(file, room);
-            if (!file)
-                return 1;
-        }
-        if (!read_all(file, length))
+    enum { FILE, HISTORY, TIMED };
+    void *request = 0;
+    u64 length;
+    while (read_all(&length, 8)) {
+        u64 kind = length >> 62;
+        length = length << 2 >> 2;
+        request = room(request, length);
+        if (!read_all(request, length))
             return 1;
-        if (timed) {
-            double took = nanoseconds(file, length);
-            if (!answer(&took, 8))
-                return 1;
-        } else {
-            HsdFile out;
-            memset(&out, 0, sizeof out);
-            out = hsd_accept(file, length);
-            if (!answer(&out, sizeof out))
-                return 1;
-        }
+        if (kind == HISTORY)
+            play(request);
+        else
+            accepted(request, length, kind == TIMED);
     }
-    return write_all(answers, waiting) ? 0 : 1;
+    flush();
+    return 0;
 }

@@ -80,12 +80,7 @@ pub fn accept(file: &[u8]) -> Result<Facts, Refusal> {
     let area = [file[38], file[39], file[40], file[41]];
     demand(is_area(&area), FIELD, 1)?;
     let timeline = read.two(44);
-    demand(timeline / 100 <= 23, FIELD, 1)?;
-    demand(
-        matches!(timeline % 100, 0 | 10 | 20 | 30 | 40 | 50),
-        FIELD,
-        1,
-    )?;
+    demand(is_timeline(timeline), FIELD, 1)?;
 
     // Block 2.
     let start_2 = 282;
@@ -269,6 +264,11 @@ pub(crate) fn is_area(area: &[u8; 4]) -> bool {
     }
 }
 
+/// hhmm as a number, by tens of minutes.
+pub(crate) fn is_timeline(timeline: u64) -> bool {
+    timeline / 100 <= 23 && matches!(timeline % 100, 0 | 10 | 20 | 30 | 40 | 50)
+}
+
 pub(crate) fn valid_bits_of_band(band: u64) -> u64 {
     match band {
         7 => 14,
@@ -336,7 +336,7 @@ fn decimal(text: &[u8]) -> Option<u64> {
 
 /// The Modified Julian Day, counted on from 2000-01-01, which is 51,544. Nothing for a date that
 /// does not exist or lies outside the years 2000 to 2099.
-fn day_of_date(year: u64, month: u64, day: u64) -> Option<u64> {
+pub(crate) fn day_of_date(year: u64, month: u64, day: u64) -> Option<u64> {
     if !(2000..=2099).contains(&year) || !(1..=12).contains(&month) {
         return None;
     }

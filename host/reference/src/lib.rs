@@ -1,14 +1,17 @@
-//! A second opinion on which satellite files are accepted and which headers are written, from
-//! document 01 alone, and the inputs on which it is compared with the proved library.
+//! A second opinion on which satellite files are accepted, which headers are written and what frames
+//! show, from document 01 alone, and the inputs on which it is compared with the proved library.
 
 pub mod accept;
+pub mod assemble;
 pub mod breach;
 pub mod damage;
+pub mod histories;
 pub mod images;
 pub mod make;
 pub mod mix;
 pub mod proved;
 pub mod random;
+pub mod takes;
 pub mod values;
 
 pub use accept::{accept, Facts, Refusal};

@@ -1,10 +1,11 @@
-//! The proved library's acceptance, asked over the bridge, and the comparison of its answer with the
-//! reference's.
+//! The proved library's acceptance and assembly, asked over the bridge, and the comparison of an
+//! acceptance with the reference's.
 
 use std::io::{self, BufReader, BufWriter, Read, Write};
 use std::process::{Child, ChildStdin, ChildStdout, Command, Stdio};
 
 use crate::accept::{Facts, Refusal};
+use crate::histories::History;
 
 /// What `hsd_accept` gives back. 0 is accepted; on a refusal everything but refusal and block is 0.
 #[derive(Debug)]
@@ -79,6 +80,15 @@ impl Requests {
         self.0.write_all(file)
     }
 
+    /// Asks for a whole history. Nothing stays behind, so that its answer can be waited for.
+    pub fn ask_history(&mut self, history: &History) -> io::Result<()> {
+        let request = history.request();
+        self.0
+            .write_all(&(request.len() as u64 | 1 << 62).to_le_bytes())?;
+        self.0.write_all(&request)?;
+        self.0.flush()
+    }
+
     /// No more requests: the bridge gives its last answers and ends.
     pub fn end(mut self) -> io::Result<()> {
         self.0.flush()
@@ -115,6 +125,13 @@ impl Answers {
         let mut b = [0; 8];
         self.from.read_exact(&mut b)?;
         Ok(f64::from_le_bytes(b))
+    }
+
+    /// So many bytes of a history's answer.
+    pub fn next_history(&mut self, length: usize) -> io::Result<Vec<u8>> {
+        let mut given = vec![0; length];
+        self.from.read_exact(&mut given)?;
+        Ok(given)
     }
 
     /// Whether the bridge ended well and had nothing more to say.
