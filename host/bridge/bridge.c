@@ -16,6 +16,7 @@ typedef struct HsdFile {
     u16 columns, lines;
     u8 number, total;
     u16 first_line, valid_bits;
+    u8 order;
     u32 header_length;
     double gain, constant;
 } HsdFile;

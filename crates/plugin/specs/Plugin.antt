@@ -1,11 +1,16 @@
 -- What C sees of an answer, in the paper's numbers.
 use Prim.Native.Nat.{ℕ}
 use mathlib.Core.Bool.{false}
-use lib.IntN.{pos}
+use lib.IntN.{ℤ, pos}
 use lib.Ieee.{Float, fin, binary64, ofBits}
 use Rattle.rules.specs.Rules.{turned, Reply, says, refuses}
 use Rattle.accept.specs.declared.Facts.{Facts}
+use Rattle.reading.specs.declared.Calibration.{Calibration}
+use Rattle.reading.specs.declared.Reading.{Reading}
+use Rattle.reading.specs.declared.Reading.the-variants.{Radiance, ErrorPixel, Outside, OverRange, Uncalibrated}
 use Rattle.plugin.specs.declared.HsdFile.{HsdFile}
+use Rattle.plugin.specs.declared.HsdReading.{HsdReading}
+use Rattle.plugin.specs.declared.HsdFrameNumber.{HsdFrameNumber}
 
 abbrev zero : Float
 zero = fin false 0 (pos 0)
@@ -27,6 +32,7 @@ refusedFile n b = record {
   total = 0;
   «first_line» = 0;
   «valid_bits» = 0;
+  order = 0;
   «header_length» = 0;
   gain = zero;
   constant = zero;
@@ -49,8 +55,27 @@ shownFile (says f) = record {
   total = f .total;
   «first_line» = f .first;
   «valid_bits» = f .bits;
+  order = f .order;
   «header_length» = f .header;
   gain = ofBits binary64 (f .gain);
   constant = ofBits binary64 (f .constant);
 }
 shownFile (refuses (turned n b)) = refusedFile n b
+
+abbrev pub calibrated : Float → Float → ℕ → Calibration
+calibrated g k b = record { gain = g; constant = k; bits = b }
+
+abbrev pub noRadiance : ℕ → HsdReading
+noRadiance k = record { radiance = zero; kind = k }
+
+-- the five kinds in the paper's order, from 0
+abbrev pub shownReading : Reading → HsdReading
+shownReading (Radiance x) = record { radiance = x; kind = 0 }
+shownReading ErrorPixel = noRadiance 1
+shownReading Outside = noRadiance 2
+shownReading OverRange = noRadiance 3
+shownReading Uncalibrated = noRadiance 4
+
+unfoldable pub shownFrame : Reply ℤ → HsdFrameNumber
+shownFrame (says n) = record { refusal = 0; block = 0; number = n }
+shownFrame (refuses (turned k b)) = record { refusal = k; block = b; number = pos 0 }

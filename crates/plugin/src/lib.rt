@@ -1,8 +1,15 @@
 // What the compositors' plug-in calls from C, thin over the proved library.
 use accept::Answer;
+use calendar::FilmFrame;
+use reading::Calibration;
+use reading::Reading;
 ghost use mathlib.Core.Path.{_≡_};
 ghost use Rattle.accept.specs.Answers.{answerOf};
-ghost use Rattle.plugin.specs.Plugin.{refusedFile, shownFile};
+ghost use Rattle.calendar.specs.Dates.{dayOf};
+ghost use Rattle.calendar.specs.Shots.{frameOf};
+ghost use Rattle.reading.specs.Counts.{readingOf};
+ghost use Rattle.format.specs.Names.{dayOr0};
+ghost use Rattle.plugin.specs.Plugin.{refusedFile, shownFile, calibrated, noRadiance, shownReading, shownFrame};
 
 // refusal is 0 for an accepted file, and everything after block is 0 for a refused one.
 #[repr(C)]
@@ -24,6 +31,8 @@ pub struct HsdFile {
     pub total: u8,
     pub first_line: u16,
     pub valid_bits: u16,
+    // 0 little-endian, 1 big-endian
+    pub order: u8,
     pub header_length: u32,
     pub gain: f64,
     pub constant: f64,
@@ -50,6 +59,7 @@ pub extern "C" fn hsd_accept(file: &[u8]) -> HsdFile
             total: f.total,
             first_line: f.first,
             valid_bits: f.bits,
+            order: f.order,
             header_length: f.header,
             gain: reading::float_of(f.gain),
             constant: reading::float_of(f.constant),
@@ -79,8 +89,90 @@ fn refused(refusal: u8, block: u8) -> HsdFile
         total: 0,
         first_line: 0,
         valid_bits: 0,
+        order: 0,
         header_length: 0,
         gain: 0.0,
         constant: 0.0,
     }
+}
+
+// kind: 0 radiance, 1 error pixel, 2 outside, 3 over range, 4 uncalibrated. radiance is 0 for every kind but 0.
+#[repr(C)]
+pub struct HsdReading {
+    pub radiance: f64,
+    pub kind: u8,
+}
+
+#[no_mangle]
+pub extern "C" fn hsd_read_count(gain: f64, constant: f64, bits: u16, count: u16) -> HsdReading
+    ensures { λ r. ⌜ r ≡ shownReading (readingOf (calibrated gain constant bits) count) ⌝ }
+{
+    let cal = Calibration {
+        gain,
+        constant,
+        bits,
+    };
+    let reading = reading::read(cal, count);
+    match reading {
+        Reading::Radiance(x) => HsdReading {
+            radiance: x,
+            kind: 0,
+        },
+        Reading::ErrorPixel => no_radiance(1),
+        Reading::Outside => no_radiance(2),
+        Reading::OverRange => no_radiance(3),
+        Reading::Uncalibrated => no_radiance(4),
+    }
+}
+
+fn no_radiance(kind: u8) -> HsdReading
+    ensures { λ r. ⌜ r ≡ noRadiance kind ⌝ }
+{
+    HsdReading {
+        radiance: 0.0,
+        kind,
+    }
+}
+
+// refusal is 0 for a number, and number is 0 for a refusal.
+#[repr(C)]
+pub struct HsdFrameNumber {
+    pub refusal: u8,
+    pub block: u8,
+    pub number: i64,
+}
+
+#[no_mangle]
+pub extern "C" fn hsd_frame_number(
+    first_day: u32,
+    first_timeline: u16,
+    day: u32,
+    timeline: u16,
+) -> HsdFrameNumber
+    ensures { λ r. ⌜ r ≡ shownFrame (frameOf «first_day» «first_timeline» day timeline) ⌝ }
+{
+    let frame = calendar::frame_number(first_day, first_timeline, day, timeline);
+    match frame {
+        FilmFrame::Number(number) => HsdFrameNumber {
+            refusal: 0,
+            block: 0,
+            number,
+        },
+        FilmFrame::Refused(t) => {
+            let why = t.why;
+            HsdFrameNumber {
+                refusal: rules::number_of(why),
+                block: t.block,
+                number: 0,
+            }
+        }
+    }
+}
+
+// The Modified Julian Day of a date, or 0 where it is not a real one of 2000 to 2099.
+#[no_mangle]
+pub extern "C" fn hsd_day(year: u16, month: u8, day: u8) -> u32
+    ensures { λ r. ⌜ r ≡ dayOr0 (dayOf year month day) ⌝ }
+{
+    format::day_or_0(calendar::day_of(year as u32, month as u32, day as u32))
 }

@@ -54,6 +54,9 @@ use Rattle.accept.proofs.check_fields7.Reads as check-fields7
 use Rattle.accept.proofs.check_name.Reads as check-name
 use Rattle.accept.proofs.accept.Reads as accept
 use Rattle.plugin.proofs.hsd_accept.Reads as hsd-accept
+use Rattle.plugin.proofs.hsd_read_count.Reads as hsd-read-count
+use Rattle.plugin.proofs.hsd_frame_number.Reads as hsd-frame-number
+use Rattle.plugin.proofs.hsd_day.Reads as hsd-day
 use Rattle.header.proofs.a_of.Reads as a-of
 use Rattle.header.proofs.b_of.Reads as b-of
 use Rattle.header.proofs.c_of.Reads as c-of
@@ -212,6 +215,15 @@ accept-one κ a x y s t p q = paperAnswer-one x y (p ∙ sym q)
 
 pub hsd-accept-one : One (λ κ x s. x) hsd-accept.Post
 hsd-accept-one κ a x y s t p q = p ∙ sym q
+
+pub hsd-read-count-one : One (λ κ x s. x) hsd-read-count.Post
+hsd-read-count-one κ a x y s t p q = p ∙ sym q
+
+pub hsd-frame-number-one : One (λ κ x s. x) hsd-frame-number.Post
+hsd-frame-number-one κ a x y s t p q = p ∙ sym q
+
+pub hsd-day-one : One (λ κ x s. x) hsd-day.Post
+hsd-day-one κ a x y s t p q = p ∙ sym q
 
 pub a-of-one : One (λ κ x s. x) a-of.Post
 a-of-one κ a x y s t p q = p ∙ sym q

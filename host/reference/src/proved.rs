@@ -24,6 +24,8 @@ pub struct HsdFile {
     pub total: u8,
     pub first_line: u16,
     pub valid_bits: u16,
+    /// 0 little-endian, 1 big-endian.
+    pub order: u8,
     pub header_length: u32,
     pub gain: f64,
     pub constant: f64,
@@ -102,6 +104,7 @@ impl Answers {
             total: b[21],
             first_line: two(&b, 22),
             valid_bits: two(&b, 24),
+            order: b[26],
             header_length: four(&b, 28),
             gain: double(&b, 32),
             constant: double(&b, 40),
@@ -161,6 +164,7 @@ pub fn agrees(expected: &Result<Facts, Refusal>, given: &HsdFile) -> bool {
         && given.total == facts.total
         && given.first_line == facts.first_line
         && given.valid_bits == facts.valid_bits
+        && given.order == facts.order
         && given.header_length == facts.header_length
         && is_double(facts.gain, given.gain)
         && is_double(facts.constant, given.constant)
