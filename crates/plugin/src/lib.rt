@@ -8,6 +8,7 @@ ghost use Rattle.accept.specs.Answers.{answerOf};
 ghost use Rattle.calendar.specs.Dates.{dayOf};
 ghost use Rattle.calendar.specs.Shots.{frameOf};
 ghost use Rattle.reading.specs.Counts.{readingOf};
+ghost use Rattle.format.specs.Bands.{bandOf};
 ghost use Rattle.format.specs.Names.{dayOr0};
 ghost use Rattle.plugin.specs.Plugin.{refusedFile, shownFile, calibrated, noRadiance, shownReading, shownFrame};
 
@@ -175,4 +176,12 @@ pub extern "C" fn hsd_day(year: u16, month: u8, day: u8) -> u32
     ensures { λ r. ⌜ r ≡ dayOr0 (dayOf year month day) ⌝ }
 {
     format::day_or_0(calendar::day_of(year as u32, month as u32, day as u32))
+}
+
+// The valid bits of a band, or 0 for what is no band.
+#[no_mangle]
+pub extern "C" fn hsd_valid_bits(band: u16) -> u16
+    ensures { λ r. ⌜ r ≡ bandOf band .bits ⌝ }
+{
+    format::band_of(band).bits
 }

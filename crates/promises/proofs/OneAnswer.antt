@@ -57,6 +57,7 @@ use Rattle.plugin.proofs.hsd_accept.Reads as hsd-accept
 use Rattle.plugin.proofs.hsd_read_count.Reads as hsd-read-count
 use Rattle.plugin.proofs.hsd_frame_number.Reads as hsd-frame-number
 use Rattle.plugin.proofs.hsd_day.Reads as hsd-day
+use Rattle.plugin.proofs.hsd_valid_bits.Reads as hsd-valid-bits
 use Rattle.header.proofs.a_of.Reads as a-of
 use Rattle.header.proofs.b_of.Reads as b-of
 use Rattle.header.proofs.c_of.Reads as c-of
@@ -224,6 +225,9 @@ hsd-frame-number-one κ a x y s t p q = p ∙ sym q
 
 pub hsd-day-one : One (λ κ x s. x) hsd-day.Post
 hsd-day-one κ a x y s t p q = p ∙ sym q
+
+pub hsd-valid-bits-one : One (λ κ x s. x) hsd-valid-bits.Post
+hsd-valid-bits-one κ a x y s t p q = p ∙ sym q
 
 pub a-of-one : One (λ κ x s. x) a-of.Post
 a-of-one κ a x y s t p q = p ∙ sym q
