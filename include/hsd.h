@@ -2,7 +2,7 @@
  *
  * What holds for every function here:
  *  - It answers whatever the numbers and bytes are: nothing needs to have been checked before.
- *  - It allocates nothing, keeps nothing and calls nothing; calls in several threads at once are fine.
+ *  - It allocates nothing and keeps nothing; calls in several threads at once are fine.
  *  - A pointer and a length lend it so many elements. The pointer must not be NULL, even when the length is 0. What is
  *    lent in one call must not overlap, and nobody else may change it meanwhile.
  *  - A refusal changes no lent element, and shows its number and its block: everything else in the answer is 0. */
@@ -120,12 +120,12 @@ typedef struct HsdAnswer {
     uint8_t block;   /* of a file's refusal; else 0 */
 } HsdAnswer;
 
-/* A record of what is in is HSD_MARKS bytes, each 0 or 1: marks[k - 1] is 1 when segment k is in. It begins as all zeros.
- * Another length, another byte, or a mark beyond the slate's total is HSD_SLATE. A frame is total x lines x columns
- * counts, line by line; frame_length counts counts, not bytes. */
+/* A record of what is in is HSD_MARKS bytes, each 0 or 1: marks[k - 1] is 1 when segment k is in. Another length or another
+ * byte is HSD_SLATE, and so is a mark beyond the slate's total, but for hsd_open, which clears it. A frame is total x lines x
+ * columns counts, line by line; frame_length counts counts, not bytes. */
 
 /* Starts a frame: HSD_SLATE, HSD_STRIP, or fine. When fine, every mark is 0 and every count of the frame is 65,534: that is
- * also a lawful count, so the marks alone say what is in. */
+ * also a lawful count, so the marks alone say what is in. Marks that were never set begin as zeros. */
 HsdAnswer hsd_open(HsdSlate slate, uint8_t *marks, size_t marks_length, uint16_t *frame, size_t frame_length);
 
 /* Offers a file: HSD_SLATE, HSD_STRIP, HSD_SHORT to HSD_TAIL, HSD_OTHER_SHOT, HSD_ALREADY, or fine. When fine, the
@@ -138,8 +138,8 @@ HsdAnswer hsd_offer(HsdSlate slate, uint8_t *marks, size_t marks_length, uint16_
  * the leader, its first counts. Answers how many counts these are: the slate's columns. Answers 0, with out as it was, for
  * a bad slate or record, a frame of another size, a line outside 1 to total x lines, a missing segment with a leader shorter
  * than a line, or an out shorter than a line. */
-uint16_t hsd_line(HsdSlate slate, const uint8_t *marks, size_t marks_length, const uint16_t *frame, size_t frame_length,
-                  const uint16_t *leader, size_t leader_length, uint16_t line, uint16_t *out, size_t out_length);
+size_t hsd_line(HsdSlate slate, const uint8_t *marks, size_t marks_length, const uint16_t *frame, size_t frame_length,
+                const uint16_t *leader, size_t leader_length, uint16_t line, uint16_t *out, size_t out_length);
 
 #ifdef __cplusplus
 }

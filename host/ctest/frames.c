@@ -38,12 +38,12 @@ static Bytes sample(const char *name)
     return file;
 }
 
-static HsdAnswer offer(HsdSlate to, State *state, size_t marks, size_t size, const Bytes *file)
+static HsdAnswer offer_to(HsdSlate to, State *state, size_t marks, size_t size, const Bytes *file)
 {
     return hsd_offer(to, state->marks, marks, state->frame, size, file->bytes, file->length);
 }
 
-static HsdAnswer open(HsdSlate to, State *state, size_t marks, size_t size)
+static HsdAnswer open_for(HsdSlate to, State *state, size_t marks, size_t size)
 {
     return hsd_open(to, state->marks, marks, state->frame, size);
 }
@@ -86,8 +86,8 @@ static void check_slates(void)
     for (size_t i = 0; i < sizeof bad / sizeof *bad; i++) {
         State state = {{0}, {0}}, before = state;
         Bytes file = sample("segment-1");
-        CHECK(is(open(bad[i], &state, HSD_MARKS, SIZE), HSD_SLATE, 0));
-        CHECK(is(offer(bad[i], &state, HSD_MARKS, SIZE, &file), HSD_SLATE, 0));
+        CHECK(is(open_for(bad[i], &state, HSD_MARKS, SIZE), HSD_SLATE, 0));
+        CHECK(is(offer_to(bad[i], &state, HSD_MARKS, SIZE, &file), HSD_SLATE, 0));
         CHECK(memcmp(&state, &before, sizeof state) == 0);
     }
 }
@@ -97,20 +97,21 @@ static void check_refused_state(void)
 {
     State state = {{0}, {0}}, before = state;
     Bytes file = sample("segment-1");
-    CHECK(is(open(slate, &state, HSD_MARKS - 1, SIZE), HSD_SLATE, 0));
-    CHECK(is(open(slate, &state, 0, SIZE), HSD_SLATE, 0));
-    CHECK(is(open(slate, &state, HSD_MARKS, SIZE - 1), HSD_STRIP, 0));
-    CHECK(is(open(slate, &state, HSD_MARKS, SIZE + 1), HSD_STRIP, 0));
-    CHECK(is(open(slate, &state, HSD_MARKS, 0), HSD_STRIP, 0));
-    CHECK(is(offer(slate, &state, HSD_MARKS - 1, SIZE, &file), HSD_SLATE, 0));
-    CHECK(is(offer(slate, &state, HSD_MARKS, SIZE - 1, &file), HSD_STRIP, 0));
+    CHECK(is(open_for(slate, &state, HSD_MARKS - 1, SIZE), HSD_SLATE, 0));
+    CHECK(is(open_for(slate, &state, 0, SIZE), HSD_SLATE, 0));
+    CHECK(is(open_for(slate, &state, HSD_MARKS, SIZE - 1), HSD_STRIP, 0));
+    CHECK(is(open_for(slate, &state, HSD_MARKS, SIZE + 1), HSD_STRIP, 0));
+    CHECK(is(open_for(slate, &state, HSD_MARKS, 0), HSD_STRIP, 0));
+    CHECK(is(offer_to(slate, &state, HSD_MARKS - 1, SIZE, &file), HSD_SLATE, 0));
+    CHECK(is(offer_to(slate, &state, HSD_MARKS, SIZE - 1, &file), HSD_STRIP, 0));
     CHECK(memcmp(&state, &before, sizeof state) == 0);
     before.marks[0] = state.marks[0] = 2;
-    CHECK(is(offer(slate, &state, HSD_MARKS, SIZE, &file), HSD_SLATE, 0));
+    CHECK(is(open_for(slate, &state, HSD_MARKS, SIZE), HSD_SLATE, 0));
+    CHECK(is(offer_to(slate, &state, HSD_MARKS, SIZE, &file), HSD_SLATE, 0));
     CHECK(memcmp(&state, &before, sizeof state) == 0);
     before.marks[0] = state.marks[0] = 0;
     before.marks[TOTAL] = state.marks[TOTAL] = 1;
-    CHECK(is(offer(slate, &state, HSD_MARKS, SIZE, &file), HSD_SLATE, 0));
+    CHECK(is(offer_to(slate, &state, HSD_MARKS, SIZE, &file), HSD_SLATE, 0));
     CHECK(memcmp(&state, &before, sizeof state) == 0);
 }
 
@@ -121,7 +122,7 @@ static void check_refused_file(State *state, const char *name, size_t length, ui
     Bytes file = sample(name);
     if (length)
         file.length = length;
-    CHECK(is(offer(slate, state, HSD_MARKS, SIZE, &file), refusal, block));
+    CHECK(is(offer_to(slate, state, HSD_MARKS, SIZE, &file), refusal, block));
     CHECK(memcmp(state, &before, sizeof before) == 0);
 }
 
@@ -137,7 +138,7 @@ static void check_placed(State *state, const char *name, unsigned number)
             (uint16_t)(says.order ? count[0] << 8 | count[1] : count[1] << 8 | count[0]);
     }
     expected.marks[number - 1] = 1;
-    CHECK(is(offer(slate, state, HSD_MARKS, SIZE, &file), HSD_FINE, 0));
+    CHECK(is(offer_to(slate, state, HSD_MARKS, SIZE, &file), HSD_FINE, 0));
     CHECK(memcmp(state, &expected, sizeof expected) == 0);
 }
 
@@ -196,7 +197,7 @@ static void check_lines(const State *state)
 static void check_frame(void)
 {
     State state = {{0}, {0}};
-    CHECK(is(open(slate, &state, HSD_MARKS, SIZE), HSD_FINE, 0));
+    CHECK(is(open_for(slate, &state, HSD_MARKS, SIZE), HSD_FINE, 0));
     CHECK(is_opened(&state));
     check_placed(&state, "segment-3", 3);
     check_refused_file(&state, "stray-late", 0, HSD_OTHER_SHOT, 0);
@@ -209,7 +210,8 @@ static void check_frame(void)
     check_lines(&state);
     check_placed(&state, "segment-4", 4);
     check_placed(&state, "segment-2", 2);
-    CHECK(is(open(slate, &state, HSD_MARKS, SIZE), HSD_FINE, 0));
+    memset(state.marks, 1, HSD_MARKS);
+    CHECK(is(open_for(slate, &state, HSD_MARKS, SIZE), HSD_FINE, 0));
     CHECK(is_opened(&state));
 }
 
