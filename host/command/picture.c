@@ -39,6 +39,7 @@ static bool write_lines(FILE *to, const Frame *frame, const uint16_t *leader, bo
     size_t columns = slate.columns;
     unsigned height = (unsigned)slate.total * slate.lines;
     uint16_t greatest = (uint16_t)((1U << hsd_valid_bits(slate.band)) - 1);
+    setvbuf(to, NULL, _IOFBF, 1 << 20);
     fprintf(to, "P5\n%zu %u\n%u\n", columns, height, greatest);
     for (unsigned line = 1; line <= height; line++) {
         if (hsd_line(slate, frame->marks, HSD_MARKS, frame->counts, frame->length, leader, columns, (uint16_t)line,
