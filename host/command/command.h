@@ -1,0 +1,54 @@
+/* What the parts of the command `panulimbe` share. Every judgement is the proved library's; the command reads, asks and
+   prints. */
+#ifndef COMMAND_H
+#define COMMAND_H
+
+#include <stdbool.h>
+
+#include "hsd.h"
+
+/* Exit statuses, the worse the higher. */
+enum { GOOD = 0, REFUSED = 1, UNUSABLE = 2, UNWRITTEN = 3 };
+
+/* The subcommands: words[0] is the subcommand's own name. */
+int list(int count, char **words);
+int frame(int count, char **words);
+int reading(int count, char **words);
+
+/* A file's bytes, mapped or read; bytes is never NULL. */
+typedef struct File {
+    const uint8_t *bytes;
+    size_t length;
+    bool mapped;
+} File;
+
+bool open_file(const char *name, File *file);
+void close_file(File *file);
+
+/* The most columns that a good slate has. */
+enum { WIDEST = 22000 };
+
+/* A frame as it fills. */
+typedef struct Frame {
+    HsdSlate slate;
+    uint8_t marks[HSD_MARKS];
+    uint16_t *counts;
+    size_t length;
+} Frame;
+
+bool parse_slate(const char *text, HsdSlate *slate);
+bool write_picture(const char *name, const Frame *frame, const uint16_t *leader, bool progress);
+
+/* Standard output, at once; one that cannot be written to ends the command. */
+void say(const char *format, ...) __attribute__((format(printf, 1, 2)));
+const char *refusal_name(uint8_t refusal);
+
+/* Standard error. */
+void complain(const char *about, const char *what);
+int misused(const char *subcommand, const char *needs);
+void show_progress(const char *what, unsigned done, unsigned all);
+
+/* A plain decimal number from least to most, and nothing after it. */
+bool parse_number(const char *text, unsigned long least, unsigned long most, unsigned *value);
+
+#endif

@@ -1,0 +1,37 @@
+/* panulimbe list: the listing's line about each file. */
+#include <stdio.h>
+#include <unistd.h>
+
+#include "command.h"
+
+static void say_line(HsdFile f)
+{
+    if (f.refusal)
+        say("NO %u %u\n", f.refusal, f.block);
+    else
+        say("OK %u %u %04u %u %c%c%c%c %u %u %u %u %u\n", f.satellite, f.day, f.timeline, f.band, (int)(f.area >> 24),
+            (int)(f.area >> 16 & 255), (int)(f.area >> 8 & 255), (int)(f.area & 255), f.columns, f.lines, f.number,
+            f.total, f.first_line);
+}
+
+/* Every name has its line, in order, so that the lines can be told apart: that of an unreadable file is empty. */
+int list(int count, char **words)
+{
+    int status = GOOD;
+    if (getopt(count, words, "") != -1 || optind == count)
+        return misused("list", "at least one file");
+    for (int i = optind; i < count; i++) {
+        File file;
+        if (!open_file(words[i], &file)) {
+            say("\n");
+            status = UNUSABLE;
+            continue;
+        }
+        HsdFile found = hsd_accept(file.bytes, file.length);
+        say_line(found);
+        if (found.refusal && status == GOOD)
+            status = REFUSED;
+        close_file(&file);
+    }
+    return status;
+}

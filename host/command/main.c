@@ -1,0 +1,99 @@
+/* The command `panulimbe`: which subcommand, and its help. */
+#include <fcntl.h>
+#include <signal.h>
+#include <stdio.h>
+#include <string.h>
+#include <unistd.h>
+
+#include "command.h"
+
+static const char overview[] =
+    "panulimbe list FILE..                                 one line about each file\n"
+    "panulimbe frame --slate SLATE -o PICTURE FILE..       a frame put together from its segments\n"
+    "panulimbe reading FILE LINE COLUMN                    what one count reads as\n"
+    "\n"
+    "'panulimbe SUBCOMMAND --help' says more. Exit status: 0 all is well; 1 something was refused or is\n"
+    "missing; 2 wrong usage, or a file that cannot be read; 3 an output that cannot be written.\n";
+
+static const char list_help[] =
+    "panulimbe list FILE..\n"
+    "\n"
+    "Prints one line about each Himawari Standard Data file, in the order given:\n"
+    "  OK 8 57210 0200 13 FLDK 4 2 1 2 1   a good file: satellite, day, timeline, band, area, columns,\n"
+    "                                      lines, segment number, segment total, first line\n"
+    "  NO 1 1                              a refused one: the refusal's number and its block\n"
+    "  (an empty line)                     a file that cannot be read; standard error says why\n"
+    "\n"
+    "Exit status: 0 all are good; 1 some file was refused; 2 some file cannot be read; 3 standard output\n"
+    "cannot be written.\n";
+
+static const char frame_help[] =
+    "panulimbe frame --slate SLATE -o PICTURE [--leader COUNT] [--progress] FILE..\n"
+    "\n"
+    "Offers the files, in the order given, to the frame that the slate names, says what became of each, and\n"
+    "writes the frame as a 16-bit PGM picture.\n"
+    "  --slate SLATE      satellite, date, timeline, band, area, columns, segments, lines per segment, as\n"
+    "                     H08,20150707,0200,13,FLDK,5500,10,550\n"
+    "  -o, --output PICTURE   white is the greatest count of the band; error pixels, counts outside the scan\n"
+    "                     and counts over range are black. The name appears when the picture is whole\n"
+    "  --leader COUNT     show missing lines as this count; otherwise they are 32 upright bands of white\n"
+    "                     and black\n"
+    "  --progress         show on standard error how far it is\n"
+    "\n"
+    "Exit status: 0 all segments are in, whatever else was offered and refused; 1 some are missing; 2 wrong\n"
+    "usage, a bad slate, or a file that cannot be read; 3 standard output or the picture cannot be written.\n";
+
+static const char reading_help[] =
+    "panulimbe reading FILE LINE COLUMN\n"
+    "\n"
+    "Prints what the count at a line and column of the file reads as, both counted from 1 within the file:\n"
+    "'radiance 4.25', 'error pixel', 'outside', 'over range' or 'uncalibrated'; or why the file is refused.\n"
+    "\n"
+    "Exit status: 0 the count was read; 1 the file is refused; 2 wrong usage, no such line or column, or a\n"
+    "file that cannot be read; 3 standard output cannot be written.\n";
+
+static const struct {
+    const char *name, *help;
+    int (*run)(int count, char **words);
+} subcommands[] = {{"list", list_help, list}, {"frame", frame_help, frame}, {"reading", reading_help, reading}};
+
+/* Of a mapped file that became shorter, the bytes that are gone cannot be had: nothing of it can be told. */
+static void shrank(int number)
+{
+    static const char text[] = "panulimbe: a file became shorter while it was read\n";
+    (void)number;
+    if (write(STDERR_FILENO, text, sizeof text - 1) < 0)
+        _exit(UNWRITTEN);
+    _exit(UNUSABLE);
+}
+
+/* A standard file that is closed is held, unwritable, so that no other file takes its number. */
+static void hold_standard_files(void)
+{
+    for (int file = 0; file <= 2; file++)
+        if (fcntl(file, F_GETFD) < 0 && open("/dev/null", O_RDONLY) != file)
+            _exit(UNWRITTEN);
+}
+
+int main(int count, char **words)
+{
+    hold_standard_files();
+    /* a closed pipe and a file that may grow no further are errors of the write, and are told as such */
+    signal(SIGPIPE, SIG_IGN);
+    signal(SIGXFSZ, SIG_IGN);
+    signal(SIGBUS, shrank);
+    if (count >= 2 && strcmp(words[1], "--help") == 0) {
+        say("%s", overview);
+        return GOOD;
+    }
+    for (size_t i = 0; count >= 2 && i < sizeof subcommands / sizeof *subcommands; i++) {
+        if (strcmp(words[1], subcommands[i].name) != 0)
+            continue;
+        if (count < 3 || strcmp(words[2], "--help") != 0)
+            return subcommands[i].run(count - 1, words + 1);
+        say("%s", subcommands[i].help);
+        return GOOD;
+    }
+    fprintf(stderr, "%s", overview);
+    return UNUSABLE;
+}

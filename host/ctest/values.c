@@ -1,0 +1,89 @@
+/* The functions on plain numbers, from C: readings, film frame numbers, days, valid bits. */
+#include <math.h>
+#include <string.h>
+
+#include "hsd.h"
+#include "test.h"
+
+static bool reads(HsdReading given, uint8_t kind, double radiance)
+{
+    return given.kind == kind && memcmp(&given.radiance, &radiance, sizeof radiance) == 0;
+}
+
+static void check_readings(void)
+{
+    CHECK(reads(hsd_read_count(0.5, -1, 11, 10), HSD_RADIANCE, 4.0));
+    CHECK(reads(hsd_read_count(0.5, -1, 11, 2047), HSD_RADIANCE, 1022.5));
+    CHECK(reads(hsd_read_count(0.5, -1, 11, 2048), HSD_OVER_RANGE, 0));
+    CHECK(reads(hsd_read_count(0.5, -1, 11, 65534), HSD_OUTSIDE, 0));
+    CHECK(reads(hsd_read_count(0.5, -1, 11, 65535), HSD_ERROR_PIXEL, 0));
+    CHECK(reads(hsd_read_count(0x1p1023, -1, 11, 2), HSD_UNCALIBRATED, 0));
+    CHECK(reads(hsd_read_count((double)NAN, -1, 11, 2), HSD_UNCALIBRATED, 0));
+    CHECK(reads(hsd_read_count((double)INFINITY, 0, 11, 0), HSD_UNCALIBRATED, 0));
+    CHECK(reads(hsd_read_count(-0.5, 10, 11, 4), HSD_RADIANCE, 8.0));
+    CHECK(reads(hsd_read_count(1, 0, 0, 0), HSD_RADIANCE, 0));
+    CHECK(reads(hsd_read_count(1, 0, 0, 1), HSD_OVER_RANGE, 0));
+    CHECK(reads(hsd_read_count(1, 0, 15, 32768), HSD_OVER_RANGE, 0));
+    CHECK(reads(hsd_read_count(1, 0, 16, 65533), HSD_RADIANCE, 65533));
+    CHECK(reads(hsd_read_count(1, 0, 65535, 65533), HSD_RADIANCE, 65533));
+}
+
+static bool numbers(HsdFrameNumber given, uint8_t refusal, int64_t number)
+{
+    return given.refusal == refusal && given.block == 0 && given.number == number;
+}
+
+static void check_frame_numbers(void)
+{
+    CHECK(numbers(hsd_frame_number(57209, 2350, 57210, 0), HSD_FINE, 1));
+    CHECK(numbers(hsd_frame_number(57210, 0, 57209, 2350), HSD_FINE, -1));
+    CHECK(numbers(hsd_frame_number(57210, 200, 57210, 200), HSD_FINE, 0));
+    CHECK(numbers(hsd_frame_number(51544, 0, 88068, 2350), HSD_FINE, 5259599));
+    CHECK(numbers(hsd_frame_number(88068, 2350, 51544, 0), HSD_FINE, -5259599));
+    CHECK(numbers(hsd_frame_number(51543, 0, 57210, 0), HSD_FIELD, 0));
+    CHECK(numbers(hsd_frame_number(57210, 0, 88069, 0), HSD_FIELD, 0));
+    CHECK(numbers(hsd_frame_number(57210, 2400, 57210, 0), HSD_FIELD, 0));
+    CHECK(numbers(hsd_frame_number(57210, 0, 57210, 60), HSD_FIELD, 0));
+    CHECK(numbers(hsd_frame_number(57210, 0, 57210, 5), HSD_FIELD, 0));
+}
+
+/* Whether a month has this day, by the almanac. */
+static bool is_date(unsigned year, unsigned month, unsigned day)
+{
+    static const unsigned lengths[] = {31, 28, 31, 30, 31, 30, 31, 31, 30, 31, 30, 31};
+    bool leap = year % 4 == 0 && (year % 100 != 0 || year % 400 == 0);
+    return month >= 1 && month <= 12 && day >= 1 && day <= lengths[month - 1] + (month == 2 && leap);
+}
+
+/* The days of the century come one after the other, and every other date is 0. */
+static void check_days(void)
+{
+    uint32_t next = 51544;
+    for (unsigned i = 0; i < 100 * 14 * 33; i++) {
+        unsigned year = 2000 + i / (14 * 33), month = i / 33 % 14, day = i % 33;
+        bool real = is_date(year, month, day);
+        CHECK(hsd_day((uint16_t)year, (uint8_t)month, (uint8_t)day) == (real ? next : 0));
+        next += real;
+    }
+    CHECK(next == 88069);
+    CHECK(hsd_day(2015, 7, 7) == 57210);
+    CHECK(hsd_day(1999, 12, 31) == 0 && hsd_day(2100, 1, 1) == 0);
+    CHECK(hsd_day(65535, 255, 255) == 0);
+}
+
+static void check_valid_bits(void)
+{
+    static const uint16_t bits[] = {0, 11, 11, 11, 11, 11, 11, 14, 11, 11, 12, 12, 12, 12, 12, 12, 11, 0};
+    for (uint16_t band = 0; band <= 17; band++)
+        CHECK(hsd_valid_bits(band) == bits[band]);
+    CHECK(hsd_valid_bits(65535) == 0);
+}
+
+int main(void)
+{
+    check_readings();
+    check_frame_numbers();
+    check_days();
+    check_valid_bits();
+    return checked("values");
+}

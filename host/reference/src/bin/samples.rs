@@ -1,0 +1,140 @@
+//! Writes the files on which the command is tried, into a folder, with what it must say of them: good ones, one for
+//! every rule that is broken, and the segments of a small frame with its pictures. Everything comes from document 01.
+
+use std::fs;
+use std::path::{Path, PathBuf};
+
+use reference::accept;
+use reference::breach::{breaches, recipe};
+use reference::make::{Recipe, Sample};
+use reference::random::Random;
+
+const COLUMNS: u64 = 64;
+const LINES: u64 = 3;
+const TOTAL: u64 = 4;
+const GREATEST: u16 = 4_095;
+
+fn main() {
+    let folder = PathBuf::from(std::env::args().nth(1).expect("a folder"));
+    fs::create_dir_all(&folder).expect("the folder is made");
+    let mut random = Random::new(20_150_707);
+    write_good(&folder, &mut random);
+    write_refused(&folder, &mut random);
+    write_frame(&folder, &mut random);
+}
+
+fn write(folder: &Path, name: &str, bytes: &[u8]) {
+    fs::write(folder.join(name), bytes).expect("the file is written");
+}
+
+/// The file whose listing the paper gives, in either byte order, with gain 0.5, constant -1 and a count of each kind.
+fn write_good(folder: &Path, random: &mut Random) {
+    for (name, order) in [("good-0", 0), ("good-1", 1)] {
+        let mut sample = Sample::make(
+            &Recipe {
+                order,
+                ..Recipe::plain()
+            },
+            random,
+        );
+        sample.put(5, 19, 8, 0.5_f64.to_bits());
+        sample.put(5, 27, 8, (-1.0_f64).to_bits());
+        for (place, count) in [10, 4_095, 4_096, 65_533, 65_534, 65_535, 0, 1]
+            .into_iter()
+            .enumerate()
+        {
+            sample.put(12, 2 * place, 2, count);
+        }
+        write(folder, name, &sample.bytes);
+        sample.put(5, 19, 8, f64::INFINITY.to_bits());
+        write(folder, &format!("{name}-uncalibrated"), &sample.bytes);
+    }
+}
+
+/// A file for every breach in either byte order, and the lines that the listing must have of them.
+fn write_refused(folder: &Path, random: &mut Random) {
+    let mut lines = String::new();
+    for order in [0, 1] {
+        for (number, breach) in breaches().iter().enumerate() {
+            let mut sample = Sample::make(&recipe(order), random);
+            breach.apply(&mut sample);
+            let refusal = accept(&sample.bytes).expect_err("a rule is broken");
+            assert_eq!((refusal.number, refusal.block), breach.answer);
+            write(
+                folder,
+                &format!("refused-{order}-{number:03}"),
+                &sample.bytes,
+            );
+            lines += &format!("NO {} {}\n", refusal.number, refusal.block);
+        }
+    }
+    write(folder, "refused.lines", lines.as_bytes());
+}
+
+fn segment(number: u64, order: u64) -> Recipe {
+    Recipe {
+        order,
+        columns: COLUMNS,
+        lines: LINES,
+        number,
+        total: TOTAL,
+        first_line: 1 + (number - 1) * LINES,
+        ..Recipe::plain()
+    }
+}
+
+/// Four segments and two strays with the number 3: one is ten minutes late, the other has the timeline of another day.
+fn write_frame(folder: &Path, random: &mut Random) {
+    let mut frame = Vec::new();
+    for number in 1..=TOTAL {
+        let mut sample = Sample::make(&segment(number, number % 2), random);
+        for place in 0..(LINES * COLUMNS) as usize {
+            let count = random.below(2 * u64::from(GREATEST));
+            sample.put(12, 2 * place, 2, count);
+            frame.push(count as u16);
+        }
+        write(folder, &format!("segment-{number}"), &sample.bytes);
+    }
+    let late = Recipe {
+        timeline: 210,
+        ..segment(3, 0)
+    };
+    write(folder, "stray-late", &Sample::make(&late, random).bytes);
+    let other_day = Recipe {
+        day: 8,
+        ..segment(3, 0)
+    };
+    write(folder, "stray-day", &Sample::make(&other_day, random).bytes);
+    write(folder, "whole.pgm", &picture(&frame));
+    write(folder, "bands.pgm", &picture(&without_third(&frame, bands)));
+    let grey = without_third(&frame, |_| 2_048);
+    write(folder, "grey.pgm", &picture(&grey));
+}
+
+/// The command's leader: 32 upright bands, the first one white.
+fn bands(column: u64) -> u16 {
+    if (column * 32 / COLUMNS).is_multiple_of(2) {
+        GREATEST
+    } else {
+        0
+    }
+}
+
+fn without_third(frame: &[u16], leader: impl Fn(u64) -> u16) -> Vec<u16> {
+    let mut frame = frame.to_vec();
+    let third = (2 * LINES * COLUMNS) as usize..(3 * LINES * COLUMNS) as usize;
+    for (place, count) in frame[third].iter_mut().enumerate() {
+        *count = leader(place as u64 % COLUMNS);
+    }
+    frame
+}
+
+/// The picture of a frame: counts above the band's greatest are black.
+fn picture(frame: &[u16]) -> Vec<u8> {
+    let mut bytes = format!("P5\n{COLUMNS} {}\n{GREATEST}\n", TOTAL * LINES).into_bytes();
+    for count in frame {
+        let shown = if *count <= GREATEST { *count } else { 0 };
+        bytes.extend(shown.to_be_bytes());
+    }
+    bytes
+}

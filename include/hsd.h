@@ -1,0 +1,148 @@
+/* Panulimbe: a proved reader of Himawari Standard Data (HSD), for C and C++. Link with libpanulimbe.a (x86-64 Linux).
+ *
+ * What holds for every function here:
+ *  - It answers whatever the numbers and bytes are: nothing needs to have been checked before.
+ *  - It allocates nothing and keeps nothing; calls in several threads at once are fine.
+ *  - A pointer and a length lend it so many elements. The pointer must not be NULL, even when the length is 0. What is
+ *    lent in one call must not overlap, and nobody else may change it meanwhile.
+ *  - A refusal changes no lent element, and shows its number and its block: everything else in the answer is 0. */
+#ifndef HSD_H
+#define HSD_H
+
+#include <stddef.h>
+#include <stdint.h>
+
+#ifdef __cplusplus
+extern "C" {
+#endif
+
+/* Why something is turned away. The first check that fails answers. */
+enum {
+    HSD_FINE = 0,        /* it is not */
+    HSD_SHORT = 1,       /* too few bytes for the block */
+    HSD_NUMBER = 2,      /* the block does not begin with its number */
+    HSD_ORDER = 3,       /* byte order above 1 */
+    HSD_LENGTH = 4,      /* the block's length is not the format's */
+    HSD_FIXED = 5,       /* block count, bits, or one of the two special counts is not the format's */
+    HSD_PACKED = 6,      /* the counts are packed */
+    HSD_FIELD = 7,       /* a value out of its range; with block 0: a day or timeline of hsd_frame_number */
+    HSD_HEADER_SUM = 8,  /* total header length is not the sum of the blocks */
+    HSD_DATA_SUM = 9,    /* total data length is not 2 x columns x lines */
+    HSD_NAME = 10,       /* the name in block 1 is not spelt by the rule, or does not agree with the header */
+    HSD_CUT = 11,        /* counts are missing at the end */
+    HSD_TAIL = 12,       /* bytes after the last count */
+    HSD_SLATE = 13,      /* bad slate, or bad marks */
+    HSD_STRIP = 14,      /* the frame is not exactly of the slate's size */
+    HSD_OTHER_SHOT = 15, /* a good file, but not one of the slate's */
+    HSD_ALREADY = 16,    /* a segment with its number is in */
+    HSD_ROOM = 17        /* the output is too short; no function here gives it */
+};
+
+/* What a count reads as. */
+enum {
+    HSD_RADIANCE = 0,
+    HSD_ERROR_PIXEL = 1,  /* count 65,535 */
+    HSD_OUTSIDE = 2,      /* count 65,534: outside the scan */
+    HSD_OVER_RANGE = 3,   /* 2 to the valid bits, or more */
+    HSD_UNCALIBRATED = 4  /* gain and constant give no finite number */
+};
+
+/* How many marks a record has, whatever the slate. */
+enum { HSD_MARKS = 99 };
+
+/* An area from its four letters, as HSD_AREA('F', 'L', 'D', 'K'). */
+#define HSD_AREA(a, b, c, d)                                                                                            \
+    ((uint32_t)(uint8_t)(a) << 24 | (uint32_t)(uint8_t)(b) << 16 | (uint32_t)(uint8_t)(c) << 8 | (uint32_t)(uint8_t)(d))
+
+/* What a file says. */
+typedef struct HsdFile {
+    uint8_t refusal;        /* HSD_FINE, or HSD_SHORT to HSD_TAIL */
+    uint8_t block;          /* of a refusal: 1 to 11, or 12 for the counts */
+    uint8_t satellite;      /* 8 or 9 */
+    uint8_t quality;        /* quality flag 1, as it stands in the file */
+    uint32_t day;           /* Modified Julian Day of the name's date: 51,544 is 2000-01-01 */
+    uint16_t timeline;      /* hhmm as a number: 200 is 02:00 */
+    uint16_t band;          /* 1 to 16 */
+    uint32_t area;          /* four letters, the first one highest */
+    uint16_t columns;       /* 1 to 22,000 */
+    uint16_t lines;         /* 1 to 22,000 */
+    uint8_t number;         /* of the segment, 1 to total */
+    uint8_t total;          /* segments of the frame, 1 to 99 */
+    uint16_t first_line;    /* of the segment in the frame; lines count from 1 */
+    uint16_t valid_bits;    /* 11, 12 or 14, by the band */
+    uint8_t order;          /* of the bytes: 0 little-endian, 1 big-endian */
+    uint32_t header_length; /* bytes; the counts follow, 2 bytes each, line by line */
+    double gain;            /* any NaN's pattern in the file is some NaN here */
+    double constant;        /* the same */
+} HsdFile;
+
+/* A file's verdict and what it says. file: its bytes, all of them. */
+HsdFile hsd_accept(const uint8_t *file, size_t file_length);
+
+/* What a count reads as. */
+typedef struct HsdReading {
+    double radiance; /* finite; 0 for every kind but HSD_RADIANCE */
+    uint8_t kind;    /* HSD_RADIANCE to HSD_UNCALIBRATED */
+} HsdReading;
+
+/* Reads a count, given as a number: gain times count, rounded once, plus constant, rounded once. */
+HsdReading hsd_read_count(double gain, double constant, uint16_t valid_bits, uint16_t count);
+
+/* A shot's number on the film. */
+typedef struct HsdFrameNumber {
+    uint8_t refusal; /* HSD_FINE, or HSD_FIELD: a day out of 51,544 to 88,068, or a timeline that is no good hhmm */
+    uint8_t block;   /* 0 */
+    int64_t number;  /* 10 minutes each, negative for a shot before the first */
+} HsdFrameNumber;
+
+HsdFrameNumber hsd_frame_number(uint32_t first_day, uint16_t first_timeline, uint32_t day, uint16_t timeline);
+
+/* The Modified Julian Day of a date, or 0 if it is not a real date of 2000 to 2099. */
+uint32_t hsd_day(uint16_t year, uint8_t month, uint8_t day);
+
+/* The valid bits of a band's counts, or 0 if it is not a band of 1 to 16. */
+uint16_t hsd_valid_bits(uint16_t band);
+
+/* What a frame is to show. Good when each part is in the range below, and total x lines is at most 22,000. */
+typedef struct HsdSlate {
+    uint8_t satellite; /* 8 or 9 */
+    uint8_t total;     /* segments, 1 to 99 */
+    uint16_t timeline; /* hhmm as a number, by tens of minutes */
+    uint16_t band;     /* 1 to 16 */
+    uint16_t columns;  /* 1 to 22,000 */
+    uint16_t lines;    /* of each segment, at least 1 */
+    uint32_t day;      /* Modified Julian Day, 51,544 to 88,068 */
+    uint32_t area;     /* four letters, the first one highest */
+} HsdSlate;
+
+typedef struct HsdAnswer {
+    uint8_t refusal; /* HSD_FINE, or why not */
+    uint8_t block;   /* of a file's refusal; else 0 */
+} HsdAnswer;
+
+/* A record of what is in is HSD_MARKS bytes, each 0 or 1: marks[k - 1] is 1 when segment k is in. Another length or another
+ * byte is HSD_SLATE, and so is a mark beyond the slate's total, but for hsd_open, which clears it. A frame is total x lines x
+ * columns counts, line by line; frame_length counts counts, not bytes. */
+
+/* Starts a frame: HSD_SLATE, HSD_STRIP, or fine. When fine, every mark is 0 and every count of the frame is 65,534: that is
+ * also a lawful count, so the marks alone say what is in. Marks that were never set begin as zeros. */
+HsdAnswer hsd_open(HsdSlate slate, uint8_t *marks, size_t marks_length, uint16_t *frame, size_t frame_length);
+
+/* Offers a file: HSD_SLATE, HSD_STRIP, HSD_SHORT to HSD_TAIL, HSD_OTHER_SHOT, HSD_ALREADY, or fine. When fine, the
+ * segment's lines of the frame are the file's counts as numbers, its mark is 1, and nothing else has changed. Files may
+ * come in any order. */
+HsdAnswer hsd_offer(HsdSlate slate, uint8_t *marks, size_t marks_length, uint16_t *frame, size_t frame_length,
+                    const uint8_t *file, size_t file_length);
+
+/* Copies a line of the frame, counted from 1, to the front of out: from the frame if the line's segment is in, or else from
+ * the leader, its first counts. Answers how many counts these are: the slate's columns. Answers 0, with out as it was, for
+ * a bad slate or record, a frame of another size, a line outside 1 to total x lines, a missing segment with a leader shorter
+ * than a line, or an out shorter than a line. */
+size_t hsd_line(HsdSlate slate, const uint8_t *marks, size_t marks_length, const uint16_t *frame, size_t frame_length,
+                const uint16_t *leader, size_t leader_length, uint16_t line, uint16_t *out, size_t out_length);
+
+#ifdef __cplusplus
+}
+#endif
+
+#endif
