@@ -1,5 +1,6 @@
 // Makes a file by its plan: a header that the writer writes, then its counts, then the damage.
 use crate::plan;
+use crate::strip;
 
 fn glyph(n: usize) -> u8 {
     (48 + n % 10) as u8
@@ -22,7 +23,7 @@ fn name(p: [usize; 19]) -> [u8; 128] {
 }
 
 // The plan's values at their places of a header.
-fn put_values(out: &mut [u8; 1511], p: [usize; 19], order: u8) {
+fn put_values(out: &mut [u8; 1495], p: [usize; 19], order: u8) {
     let band = plan::short(p, plan::BAND);
     wire::put_byte(out, 5, order);
     wire::put(out, 6, b"Himawari-");
@@ -40,10 +41,11 @@ fn put_values(out: &mut [u8; 1511], p: [usize; 19], order: u8) {
     wire::put_u16(out, 1009, plan::first(p), order);
 }
 
-// The writer makes a header of what stands there, with these entries.
-fn put_header(out: &mut [u8; 1511], lines: &[u16], shifts: &[u32], times: &[u64]) {
+// The writer makes a header of what stands there, with so many entries in block 10.
+fn put_header(out: &mut [u8; 1495], entries: usize) {
     let h = header::read_header(out);
-    writer::write(out, h, lines, shifts, shifts, lines, times, lines, lines);
+    let list = strip::part(&[1, 2], entries);
+    writer::write(out, h, &[], &[], &[], &[], &[], list, list);
 }
 
 // Take 1 of line 19 on: 11901, 11902 and so on.
@@ -56,28 +58,24 @@ fn count(p: [usize; 19], i: u8) -> u16 {
 }
 
 // As many counts as the longest file here has, from where the header says that it ends.
-fn put_counts(out: &mut [u8; 1511], p: [usize; 19], order: u8) {
+fn put_counts(out: &mut [u8; 1495], p: [usize; 19], order: u8) {
     let at = wire::u32_at(out, 70, order) as usize;
     for i in 0..12u8 {
         wire::put_u16(out, at + 2 * (i as usize), count(p, i), order);
     }
 }
 
-fn put_damage(out: &mut [u8; 1511], p: [usize; 19]) {
+fn put_damage(out: &mut [u8; 1495], p: [usize; 19]) {
     let x = plan::of(p, plan::BYTE);
     wire::put_byte(out, x / 256, (x % 256) as u8);
 }
 
 // As many bytes as the longest file has.
-pub(crate) fn made(p: [usize; 19]) -> [u8; 1511] {
-    let mut out = [0u8; 1511];
+pub(crate) fn made(p: [usize; 19]) -> [u8; 1495] {
+    let mut out = [0u8; 1495];
     let order = plan::byte(p, plan::ORDER);
     put_values(&mut out, p, order);
-    if plan::of(p, plan::ENTRIES) == 0 {
-        put_header(&mut out, &[], &[], &[]);
-    } else {
-        put_header(&mut out, &[1], &[2], &[3]);
-    }
+    put_header(&mut out, plan::of(p, plan::ENTRIES));
     put_counts(&mut out, p, order);
     put_damage(&mut out, p);
     out

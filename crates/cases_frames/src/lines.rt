@@ -3,7 +3,6 @@ use crate::floor;
 use crate::plan;
 use crate::plan::AND;
 use crate::plan::ASK;
-use crate::plan::FILL;
 use crate::plan::MARK;
 use crate::plan::OFFER;
 use crate::plan::OPEN;
@@ -67,7 +66,7 @@ const RECORDS: [usize; 20] = [
     MARK + plan::NUMBER + 99,
     OFFER + plan::SEGMENT + 1_001,
     ASK + plan::LINE + 1,
-    FILL,
+    MARK,
     OFFER + plan::SEGMENT + 1_001,
     ASK + plan::LINE + 1,
 ];
@@ -83,7 +82,7 @@ const NINETY_NINE: [usize; 13] = [
     ASK + plan::LINE + 99,
     ASK + plan::LINE + 100,
     MARK + plan::NUMBER + 50,
-    FILL,
+    MARK,
     OFFER + plan::SEGMENT + 2_002,
     ASK + plan::LINE + 98,
     ASK + plan::LINE + 99,

@@ -8,6 +8,7 @@ mod offers;
 mod orders;
 mod plan;
 mod slates;
+mod strip;
 mod text;
 
 fn main() {

@@ -1,6 +1,7 @@
 // The same files in ten orders: forward, backward and mixed. Each file's answer, the record and the strip are those of the first order.
 use crate::floor;
 use crate::plan;
+use crate::strip;
 use crate::text;
 use frame::Record;
 use rules::Verdict;
@@ -45,7 +46,7 @@ fn answer(k: usize, v: Verdict) -> u16 {
 
 // Offers every file: each one is so many files after the last, and 11 is a prime.
 fn offer_all(slate: Slate, base: [usize; 19], stride: usize) -> Outcome {
-    let mut strip = [floor::BARE; 128];
+    let mut strip = [strip::BARE; 128];
     let opened = floor::held(plan::OPEN, slate, frame::empty(), &mut strip, base);
     let mut rec = opened.rec;
     let mut k = 0;
@@ -61,13 +62,16 @@ fn offer_all(slate: Slate, base: [usize; 19], stride: usize) -> Outcome {
     Outcome { rec, strip }
 }
 
+// Tells how many numbers are in, and whether two orders came to the same.
 fn compare(a: Outcome, b: Outcome) {
     let strip_a = a.strip;
     let strip_b = b.strip;
     floor::tally(b.rec);
-    text::same(b", answers and strip", floor::same(&strip_a, &strip_b));
-    text::same(b", record", floor::same_marks(a.rec, b.rec));
-    text::word(b"\n");
+    if strip::same(&strip_a, &strip_b) & strip::same_marks(a.rec, b.rec) {
+        text::word(b", the same answers, record and strip\n");
+    } else {
+        text::word(b", OTHERWISE\n");
+    }
 }
 
 pub(crate) fn run() {
@@ -79,7 +83,7 @@ pub(crate) fn run() {
     let forward = offer_all(slate, base, 1);
     let strip = forward.strip;
     compare(forward, forward);
-    text::counts(floor::part(&strip, 48));
+    text::counts(strip::part(&strip, 48));
     for stride in 2..11 {
         compare(forward, offer_all(slate, base, stride));
     }

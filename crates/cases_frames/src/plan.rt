@@ -24,10 +24,8 @@ pub const ASK: usize = 4 * DEED;
 // The strip is shown as it lies there.
 pub const SHOW: usize = 5 * DEED;
 
-// One number is marked by hand, or all 99 are.
+// A number is marked by hand, or all 99 where none is named.
 pub const MARK: usize = 6 * DEED;
-
-pub const FILL: usize = 7 * DEED;
 
 // The parts of a slate; a file has them, too.
 pub const SATELLITE: usize = 1 * PART;
@@ -54,7 +52,7 @@ pub const ORDER: usize = 10 * PART;
 // which counts it has: those of a take tell it, the first line and their places; take 0 is all 65,534,
 pub const TAKE: usize = 11 * PART;
 
-// how many entries each of its blocks 8 to 10 has, 0 or 1,
+// how many entries its block 10 has,
 pub const ENTRIES: usize = 12 * PART;
 
 // a byte that is damaged: its place times 256, and the byte,
@@ -92,7 +90,7 @@ pub const MODEL: [usize; 19] = [
     80,
     4,
     1,
-    1,
+    0,
 ];
 
 fn place(x: usize) -> usize

@@ -54,13 +54,3 @@ pub(crate) fn name(s: &[u8]) {
     word(wire::piece(s, 0, n));
     word(b" ");
 }
-
-// Whether what a word names is the same.
-pub(crate) fn same(what: &[u8], yes: bool) {
-    word(what);
-    if yes {
-        word(b" the same");
-    } else {
-        word(b" OTHERWISE");
-    }
-}

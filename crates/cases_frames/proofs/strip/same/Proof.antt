@@ -1,10 +1,10 @@
--- `cases_frames::floor::same` is safe and ends: each turn leaves fewer counts. Assumes nothing.
+-- `cases_frames::strip::same` is safe and ends: each turn leaves fewer counts. Assumes nothing.
 use Prim.Native.Nat.{_≤_, _-_}
 use mathlib.Core.Path.{_≡_}
 use lib.ListN.{length}
 use borrow.Author.Needs.{needs}
-use Rattle.cases_frames.proofs.floor.same.Statement.{statement}
-use Rattle.cases_frames.proofs.floor.same.Tie as tie
+use Rattle.cases_frames.proofs.strip.same.Statement.{statement}
+use Rattle.cases_frames.proofs.strip.same.Tie as tie
 
 abbrev Inv-loop : tie.InvT-loop
 Inv-loop a b i₀ i-end i = (i ≤ i-end) × (i-end ≡ length a) × (length a ≡ length b)

@@ -1,8 +1,8 @@
--- `cases_frames::floor::same_marks` is safe and ends: each turn leaves fewer marks. Assumes nothing.
+-- `cases_frames::strip::same_marks` is safe and ends: each turn leaves fewer marks. Assumes nothing.
 use Prim.Native.Nat.{_≤_, _-_}
 use borrow.Author.Needs.{needs}
-use Rattle.cases_frames.proofs.floor.same_marks.Statement.{statement}
-use Rattle.cases_frames.proofs.floor.same_marks.Tie as tie
+use Rattle.cases_frames.proofs.strip.same_marks.Statement.{statement}
+use Rattle.cases_frames.proofs.strip.same_marks.Tie as tie
 
 abbrev Inv-loop : tie.InvT-loop
 Inv-loop a b i₀ i = i ≤ 99

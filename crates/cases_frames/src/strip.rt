@@ -1,0 +1,35 @@
+// Strips of counts: their parts, and whether two of them, or two records, are the same.
+use frame::Record;
+
+// What a strip holds before a frame is opened on it.
+pub const BARE: u16 = 7;
+
+pub(crate) fn same(a: &[u16], b: &[u16]) -> bool {
+    if a.len() != b.len() {
+        return false;
+    }
+    for i in 0..a.len() {
+        if a[i] != b[i] {
+            return false;
+        }
+    }
+    true
+}
+
+pub(crate) fn same_marks(a: Record, b: Record) -> bool {
+    for i in 0..99 {
+        if a.marks[i] != b.marks[i] {
+            return false;
+        }
+    }
+    true
+}
+
+// The first n counts of a strip.
+pub(crate) fn part(s: &[u16], n: usize) -> &[u16] {
+    if n <= s.len() { &s[0..n] } else { s }
+}
+
+pub(crate) fn part_mut(s: &mut [u16], n: usize) -> &mut [u16] {
+    if n <= s.len() { &mut s[0..n] } else { s }
+}
