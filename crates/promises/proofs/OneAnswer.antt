@@ -70,6 +70,7 @@ use Rattle.slate.proofs.Slate.place_of.Reads as place-of
 use Rattle.slate.proofs.Slate.has_line.Reads as has-line
 use Rattle.slate.proofs.Slate.cover_of.Reads as cover-of
 use Rattle.slate.proofs.Slate.matches.Reads as slate-matches
+use Rattle.frame.proofs.empty.Reads as empty
 use Rattle.frame.proofs.is_marked.Reads as is-marked
 use Rattle.frame.proofs.tally.Reads as tally
 use Rattle.frame.proofs.open.Reads as opening
@@ -80,6 +81,9 @@ use Rattle.plugin.proofs.hsd_read_count.Reads as hsd-read-count
 use Rattle.plugin.proofs.hsd_frame_number.Reads as hsd-frame-number
 use Rattle.plugin.proofs.hsd_day.Reads as hsd-day
 use Rattle.plugin.proofs.hsd_valid_bits.Reads as hsd-valid-bits
+use Rattle.plugin.proofs.strips.hsd_open.Reads as hsd-open
+use Rattle.plugin.proofs.strips.hsd_offer.Reads as hsd-offer
+use Rattle.plugin.proofs.strips.hsd_line.Reads as hsd-line
 use Rattle.header.proofs.a_of.Reads as a-of
 use Rattle.header.proofs.b_of.Reads as b-of
 use Rattle.header.proofs.c_of.Reads as c-of
@@ -291,6 +295,9 @@ pub tally-one : One (λ κ x s. x) tally.Post
 tally-one κ a x y s t p q = p ∙ sym q
 
 -- the verdict with the newest record, and every count of the frame afterwards
+pub empty-one : One (λ κ x s. x) empty.Post
+empty-one κ a x y s t p q i = record { marks = (p ∙ sym q) i }
+
 pub opening-one : One (λ κ x s. x) opening.Post × One (λ κ x s. now (s .1 .0)) opening.Post
 opening-one = (
   λ κ a x y s t p q i. record { verdict = paper-one (x .verdict) (y .verdict) (p .0 ∙ sym (q .0)) i; rec = record { marks = (p .1 .0 ∙ sym (q .1 .0)) i } },
@@ -373,3 +380,21 @@ write-one = (λ κ a x y s t p q. paper-one x y (p .says ∙ sym (q .says)), λ 
 
 pub line-one : One (λ κ x s. x) line.Post × One (λ κ x s. now (s .1 .0)) line.Post
 line-one = (λ κ a x y s t p q. p .long ∙ sym (q .long), λ κ a x y s t p q. p .is ∙ sym (q .is))
+
+pub hsd-open-one : One (λ κ x s. x) hsd-open.Post × (One (λ κ x s. now (s .1 .0)) hsd-open.Post × One (λ κ x s. now (s .1 .1 .0)) hsd-open.Post)
+hsd-open-one = (
+  λ κ a x y s t p q. p .0 ∙ sym (q .0),
+  (λ κ a x y s t p q. p .1 .0 ∙ sym (q .1 .0), λ κ a x y s t p q. p .1 .1 ∙ sym (q .1 .1)),
+)
+
+pub hsd-offer-one : One (λ κ x s. x) hsd-offer.Post × (One (λ κ x s. now (s .1 .0)) hsd-offer.Post × One (λ κ x s. now (s .1 .1 .0)) hsd-offer.Post)
+hsd-offer-one = (
+  λ κ a x y s t p q. p .0 ∙ sym (q .0),
+  (λ κ a x y s t p q. p .1 .0 ∙ sym (q .1 .0), λ κ a x y s t p q. p .1 .1 ∙ sym (q .1 .1)),
+)
+
+pub hsd-line-one : One (λ κ x s. x) hsd-line.Post × One (λ κ x s. now (s .1 .1 .1 .1 .1 .0)) hsd-line.Post
+hsd-line-one = (
+  λ κ a x y s t p q. p .0 ∙ sym (q .0),
+  λ κ a x y s t p q. p .1 ∙ sym (q .1),
+)
