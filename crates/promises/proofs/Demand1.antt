@@ -5,7 +5,7 @@
 use mathlib.Core.Path.{_≡_, refl, sym, _∙_}
 use mathlib.Core.Bool.{Bool, true, false, cond}
 use mathlib.Core.List.{List, [], _∷_}
-use Prim.Native.Nat.{ℕ}
+use Prim.Native.Nat.{ℕ, _≤_}
 use native.Mathlib.Omega.{arith}
 use lib.ListN.{length}
 use denote.Ref.{now}
@@ -17,6 +17,9 @@ use Rattle.accept.specs.Checks.{shape, entries, shape1, fields1, fixed2, fields
 use Rattle.accept.specs.Answers.{factsOf, paperAnswer, answerOf}
 use Rattle.slate.specs.Slates.{slated, paperSlate, slateOf}
 use Rattle.frame.specs.Frames.{opening, openFrame, ready, placing, offering, recordAfter, frameAfter}
+use Rattle.frame.specs.Lines.{shown}
+use Rattle.frame.proofs.Asking.{line-length, line-some}
+use Rattle.frame.proofs.line_of.Reads as line-of
 use Rattle.writer.specs.Given.{orders, lengths8, lengths9, lengths10, room, given}
 use Rattle.reader.specs.Reads.{rooms2, rooms3, filled}
 use Rattle.plugin.specs.Strips.{slateIn, shownRuling, lent, marksIn, openedC, offeredC, openMarks, openStrip, offerMarks, offerStrip, lineC}
@@ -109,6 +112,17 @@ unfolding recordAfter frameAfter
 of-offer κ a r t p u e =
     let q = sym (p .0) ∙ e in
     (refused-in (offering (a .0) (a .1 .0 .marks) (length (now (a .1 .1 .0))) (now (a .1 .1 .1 .0))) (in-offering _ _ _ _) u q, (p .1 .0 ∙ left _ u _ _ q, p .1 .1 ∙ left _ u _ _ q))
+
+-- a line's refusal is an empty part: one that can be shown has all its columns, which are never none, and any other is empty
+module _ (κ : _) (a : _) (r : _) (t : _) (p : line-of.Post κ a r t) where
+  abbrev seen : Bool
+  seen = shown (a .0) (a .1 .0 .marks) (now (a .1 .1 .0)) (now (a .1 .1 .1 .0)) (a .1 .1 .1 .1 .0 .0)
+
+  pub of-line : length (now r) ≡ cond seen (a .0 .columns) 0
+  of-line = rw p (line-length (a .0) (a .1 .0 .marks) (now (a .1 .1 .0)) (now (a .1 .1 .1 .0)) (a .1 .1 .1 .1 .0 .0))
+
+  pub never-empty : seen ≡ true → 1 ≤ length (now r)
+  never-empty e = rw p (line-some (a .0) (a .1 .0 .marks) (now (a .1 .1 .0)) (now (a .1 .1 .1 .0)) (a .1 .1 .1 .1 .0 .0) e)
 
 -- ---- the writer's output, and the slices that the reader fills
 
