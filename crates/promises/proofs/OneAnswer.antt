@@ -96,6 +96,9 @@ use Rattle.reader.proofs.read.Reads as read-header-of
 use Rattle.reader.proofs.read_shifts.Reads as read-shifts
 use Rattle.reader.proofs.read_times.Reads as read-times
 use Rattle.reader.proofs.read_errors.Reads as read-errors
+use Rattle.blocks.proofs.put40.Reads as put40
+use Rattle.blocks.proofs.put256.Reads as put256
+use Rattle.blocks.proofs.write_front.Reads as write-front
 use Rattle.writer.proofs.write.Reads as write
 use Rattle.listing.proofs.line.Reads as line
 
@@ -374,6 +377,15 @@ read-errors-one = (
   λ κ a x y s t p q. paper-one x y (p .says ∙ sym (q .says)),
   (λ κ a x y s t p q. p .lines ∙ sym (q .lines), λ κ a x y s t p q. p .pixels ∙ sym (q .pixels)),
 )
+
+pub put40-one : One (λ κ x s. now (s .0)) put40.Post
+put40-one κ a x y s t p q = p .is ∙ sym (q .is)
+
+pub put256-one : One (λ κ x s. now (s .0)) put256.Post
+put256-one κ a x y s t p q = p .is ∙ sym (q .is)
+
+pub write-front-one : One (λ κ x s. now (s .0)) write-front.Post
+write-front-one κ a x y s t p q = p .is ∙ sym (q .is)
 
 pub write-one : One (λ κ x s. x) write.Post × One (λ κ x s. now (s .0)) write.Post
 write-one = (λ κ a x y s t p q. paper-one x y (p .says ∙ sym (q .says)), λ κ a x y s t p q. p .leaves ∙ sym (q .leaves))

@@ -3,8 +3,8 @@ use mathlib.Core.Path.{refl}
 use Rattle.wire.proofs.Stores.{puts, next, done, stored-length}
 use Rattle.header.specs.Encode.{bytes5}
 use borrow.Author.Needs.{needs}
-use Rattle.writer.proofs.write5.Statement.{statement}
-use Rattle.writer.proofs.write5.Tie as tie
+use Rattle.blocks.proofs.write5.Statement.{statement}
+use Rattle.blocks.proofs.write5.Tie as tie
 
 returns : tie.Need-returns
 unfolding bytes5

@@ -1,10 +1,10 @@
 -- `write_front`: blocks 1 to 7, each where the last one ended.
 use mathlib.Core.Path.{refl}
 use Rattle.wire.proofs.Stores.{puts, next, done}
-use Rattle.writer.specs.Sizes.{front}
+use Rattle.blocks.specs.Front.{front}
 use borrow.Author.Needs.{needs}
-use Rattle.writer.proofs.write_front.Statement.{statement}
-use Rattle.writer.proofs.write_front.Tie as tie
+use Rattle.blocks.proofs.write_front.Statement.{statement}
+use Rattle.blocks.proofs.write_front.Tie as tie
 
 returns : tie.Need-returns
 unfolding front

@@ -3,8 +3,8 @@ use mathlib.Core.Path.{refl}
 use Rattle.wire.proofs.Stores.{puts, next, done, stored-length}
 use Rattle.header.specs.Encode.{carrying}
 use borrow.Author.Needs.{needs}
-use Rattle.writer.proofs.write4.Statement.{statement}
-use Rattle.writer.proofs.write4.Tie as tie
+use Rattle.blocks.proofs.write4.Statement.{statement}
+use Rattle.blocks.proofs.write4.Tie as tie
 
 returns : tie.Need-returns
 unfolding carrying

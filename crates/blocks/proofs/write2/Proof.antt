@@ -3,8 +3,8 @@ use mathlib.Core.Path.{refl}
 use Rattle.wire.proofs.Stores.{puts, next, done, stored-length}
 use Rattle.header.specs.Encode.{bytes2}
 use borrow.Author.Needs.{needs}
-use Rattle.writer.proofs.write2.Statement.{statement}
-use Rattle.writer.proofs.write2.Tie as tie
+use Rattle.blocks.proofs.write2.Statement.{statement}
+use Rattle.blocks.proofs.write2.Tie as tie
 
 returns : tie.Need-returns
 unfolding bytes2
