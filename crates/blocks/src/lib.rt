@@ -1,4 +1,4 @@
-// Blocks 1 to 7, whose lengths are fixed, and runs of bytes, stored in a lent output.
+// Blocks 1 to 7, whose lengths are fixed, stored in a lent output.
 use header::Block1;
 use header::Block2;
 use header::Block5;
@@ -8,19 +8,7 @@ ghost use Rattle.wire.specs.Wire.{join, Stored};
 ghost use Rattle.header.specs.Encode.{bytes1, bytes2, carrying, bytes5, bytes7};
 ghost use Rattle.blocks.specs.Front.{front};
 
-// Stores of so many bytes; a file's spares, of 40 and of 256, stand in the later blocks too.
-fn put2(out: &mut [u8], at: usize, b: [u8; 2])
-    ensures { λ _. ⌜ Stored 2 (now (out .entry)) at b (now (out .exit)) ⌝ }
-{
-    wire::put(out, at, &b);
-}
-
-fn put4(out: &mut [u8], at: usize, b: [u8; 4])
-    ensures { λ _. ⌜ Stored 4 (now (out .entry)) at b (now (out .exit)) ⌝ }
-{
-    wire::put(out, at, &b);
-}
-
+// Stores of so many bytes.
 fn put16(out: &mut [u8], at: usize, b: [u8; 16])
     ensures { λ _. ⌜ Stored 16 (now (out .entry)) at b (now (out .exit)) ⌝ }
 {
@@ -29,12 +17,6 @@ fn put16(out: &mut [u8], at: usize, b: [u8; 16])
 
 fn put32(out: &mut [u8], at: usize, b: [u8; 32])
     ensures { λ _. ⌜ Stored 32 (now (out .entry)) at b (now (out .exit)) ⌝ }
-{
-    wire::put(out, at, &b);
-}
-
-pub fn put40(out: &mut [u8], at: usize, b: [u8; 40])
-    ensures { λ _. ⌜ Stored 40 (now (out .entry)) at b (now (out .exit)) ⌝ }
 {
     wire::put(out, at, &b);
 }
@@ -63,12 +45,6 @@ fn put136(out: &mut [u8], at: usize, b: [u8; 136])
     wire::put(out, at, &b);
 }
 
-pub fn put256(out: &mut [u8], at: usize, b: [u8; 256])
-    ensures { λ _. ⌜ Stored 256 (now (out .entry)) at b (now (out .exit)) ⌝ }
-{
-    wire::put(out, at, &b);
-}
-
 // The blocks, each stored piece by piece. header and counts: their lengths.
 fn write1(out: &mut [u8], v: Block1, header: u32, counts: u32)
     ensures { λ _. ⌜ Stored 282 (now (out .entry)) 0 (bytes1 v header counts) (now (out .exit)) ⌝ }
@@ -86,8 +62,8 @@ fn write1(out: &mut [u8], v: Block1, header: u32, counts: u32)
     wire::put_byte(out, 5, v.order);
     put16(out, 6, satellite);
     put16(out, 22, centre);
-    put4(out, 38, area);
-    put2(out, 42, other);
+    wire::put4(out, 38, area);
+    wire::put2(out, 42, other);
     wire::put_u16(out, 44, v.timeline, v.order);
     wire::put_u64(out, 46, v.started, v.order);
     wire::put_u64(out, 54, v.ended, v.order);
@@ -100,7 +76,7 @@ fn write1(out: &mut [u8], v: Block1, header: u32, counts: u32)
     wire::put_byte(out, 81, v.quality4);
     put32(out, 82, version);
     put128(out, 114, name);
-    put40(out, 242, spare);
+    wire::put40(out, 242, spare);
 }
 
 fn write2(out: &mut [u8], order: u8, v: Block2)
@@ -113,7 +89,7 @@ fn write2(out: &mut [u8], order: u8, v: Block2)
     wire::put_u16(out, 287, v.columns, order);
     wire::put_u16(out, 289, v.lines, order);
     wire::put_byte(out, 291, v.compression);
-    put40(out, 292, spare);
+    wire::put40(out, 292, spare);
 }
 
 fn write3(out: &mut [u8], order: u8, carried: [u8; 124])
@@ -153,7 +129,7 @@ fn write6(out: &mut [u8], order: u8, carried: [u8; 256])
 {
     wire::put_byte(out, 745, 6);
     wire::put_u16(out, 746, 259, order);
-    put256(out, 748, carried);
+    wire::put256(out, 748, carried);
 }
 
 fn write7(out: &mut [u8], order: u8, v: Block7)
@@ -165,7 +141,7 @@ fn write7(out: &mut [u8], order: u8, v: Block7)
     wire::put_byte(out, 1007, v.total);
     wire::put_byte(out, 1008, v.number);
     wire::put_u16(out, 1009, v.first, order);
-    put40(out, 1011, spare);
+    wire::put40(out, 1011, spare);
 }
 
 // All seven.

@@ -88,21 +88,17 @@ pub(crate) fn nameless(order: u8) -> Header {
     }
 }
 
-fn glyph(x: u32) -> u8 {
-    (48 + x % 10) as u8
-}
-
 // The date yyyymmdd in digits.
 fn digits(d: u32) -> [u8; 8] {
     [
-        glyph(d / 10000000),
-        glyph(d / 1000000),
-        glyph(d / 100000),
-        glyph(d / 10000),
-        glyph(d / 1000),
-        glyph(d / 100),
-        glyph(d / 10),
-        glyph(d),
+        format::glyph(d / 10000000),
+        format::glyph(d / 1000000),
+        format::glyph(d / 100000),
+        format::glyph(d / 10000),
+        format::glyph(d / 1000),
+        format::glyph(d / 100),
+        format::glyph(d / 10),
+        format::glyph(d),
     ]
 }
 

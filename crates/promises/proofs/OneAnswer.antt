@@ -17,6 +17,10 @@ use Rattle.wire.proofs.u64_at.Reads as u64-at
 use Rattle.wire.proofs.fill.Reads as fill
 use Rattle.wire.proofs.same.Reads as same
 use Rattle.wire.proofs.put.Reads as put
+use Rattle.wire.proofs.put2.Reads as put2
+use Rattle.wire.proofs.put4.Reads as put4
+use Rattle.wire.proofs.put40.Reads as put40
+use Rattle.wire.proofs.put256.Reads as put256
 use Rattle.wire.proofs.put_byte.Reads as put-byte
 use Rattle.wire.proofs.put_u16.Reads as put-u16
 use Rattle.wire.proofs.put_u32.Reads as put-u32
@@ -42,6 +46,7 @@ use Rattle.format.proofs.good_band.Reads as good-band
 use Rattle.format.proofs.band_of.Reads as band-of
 use Rattle.format.proofs.date_of.Reads as date-of
 use Rattle.format.proofs.day_or_0.Reads as day-or-0
+use Rattle.format.proofs.glyph.Reads as glyph
 use Rattle.format.proofs.name_for.Reads as name-for
 use Rattle.format.proofs.good_name.Reads as good-name
 use Rattle.header.proofs.read_block1.Reads as read-block1
@@ -96,8 +101,6 @@ use Rattle.reader.proofs.read.Reads as read-header-of
 use Rattle.reader.proofs.read_shifts.Reads as read-shifts
 use Rattle.reader.proofs.read_times.Reads as read-times
 use Rattle.reader.proofs.read_errors.Reads as read-errors
-use Rattle.blocks.proofs.put40.Reads as put40
-use Rattle.blocks.proofs.put256.Reads as put256
 use Rattle.blocks.proofs.write_front.Reads as write-front
 use Rattle.writer.proofs.write.Reads as write
 use Rattle.listing.proofs.line.Reads as line
@@ -131,6 +134,18 @@ same-one κ a x y s t p q = p ∙ sym q
 
 pub put-one : One (λ κ x s. now (s .0)) put.Post
 put-one κ a x y s t p q = p ∙ sym q
+
+pub put2-one : One (λ κ x s. now (s .0)) put2.Post
+put2-one κ a x y s t p q = p .is ∙ sym (q .is)
+
+pub put4-one : One (λ κ x s. now (s .0)) put4.Post
+put4-one κ a x y s t p q = p .is ∙ sym (q .is)
+
+pub put40-one : One (λ κ x s. now (s .0)) put40.Post
+put40-one κ a x y s t p q = p .is ∙ sym (q .is)
+
+pub put256-one : One (λ κ x s. now (s .0)) put256.Post
+put256-one κ a x y s t p q = p .is ∙ sym (q .is)
 
 pub put-byte-one : One (λ κ x s. now (s .0)) put-byte.Post
 put-byte-one κ a x y s t p q = p .is ∙ sym (q .is)
@@ -206,6 +221,9 @@ date-of-one κ a x y s t p q = paperDay-one x y (p ∙ sym q)
 
 pub day-or-0-one : One (λ κ x s. x) day-or-0.Post
 day-or-0-one κ a x y s t p q = p ∙ sym q
+
+pub glyph-one : One (λ κ x s. x) glyph.Post
+glyph-one κ a x y s t p q = p ∙ sym q
 
 pub name-for-one : One (λ κ x s. x) name-for.Post
 name-for-one κ a x y s t p q = p ∙ sym q
@@ -377,12 +395,6 @@ read-errors-one = (
   λ κ a x y s t p q. paper-one x y (p .says ∙ sym (q .says)),
   (λ κ a x y s t p q. p .lines ∙ sym (q .lines), λ κ a x y s t p q. p .pixels ∙ sym (q .pixels)),
 )
-
-pub put40-one : One (λ κ x s. now (s .0)) put40.Post
-put40-one κ a x y s t p q = p .is ∙ sym (q .is)
-
-pub put256-one : One (λ κ x s. now (s .0)) put256.Post
-put256-one κ a x y s t p q = p .is ∙ sym (q .is)
 
 pub write-front-one : One (λ κ x s. now (s .0)) write-front.Post
 write-front-one κ a x y s t p q = p .is ∙ sym (q .is)

@@ -95,7 +95,7 @@ fn write8(out: &mut [u8], order: u8, v: Block8, ls: &[u16], xs: &[u32], ys: &[u3
     wire::put_u64(out, 1062, v.rotation, order);
     wire::put_u16(out, 1070, a as u16, order);
     write_entries8(out, 1072, order, ls, xs, ys);
-    blocks::put40(out, end, spare);
+    wire::put40(out, end, spare);
 }
 
 fn write9(out: &mut [u8], at: usize, order: u8, spare: [u8; 40], ls: &[u16], ts: &[u64])
@@ -110,7 +110,7 @@ fn write9(out: &mut [u8], at: usize, order: u8, spare: [u8; 40], ls: &[u16], ts:
     wire::put_u16(out, at, b as u16, order);
     let at = at + 2;
     write_entries9(out, at, order, ls, ts);
-    blocks::put40(out, at + 10 * b, spare);
+    wire::put40(out, at + 10 * b, spare);
 }
 
 fn write10(out: &mut [u8], at: usize, order: u8, spare: [u8; 40], ls: &[u16], ps: &[u16])
@@ -125,7 +125,7 @@ fn write10(out: &mut [u8], at: usize, order: u8, spare: [u8; 40], ls: &[u16], ps
     wire::put_u16(out, at, c as u16, order);
     let at = at + 2;
     write_entries10(out, at, order, ls, ps);
-    blocks::put40(out, at + 4 * c, spare);
+    wire::put40(out, at + 4 * c, spare);
 }
 
 fn write11(out: &mut [u8], at: usize, order: u8, spare: [u8; 256])
@@ -136,7 +136,7 @@ fn write11(out: &mut [u8], at: usize, order: u8, spare: [u8; 256])
     let at = at + 1;
     wire::put_u16(out, at, 259, order);
     let at = at + 2;
-    blocks::put256(out, at, spare);
+    wire::put256(out, at, spare);
 }
 
 // Blocks 8 to 11, then the whole header, where every count and length has room in its field.
