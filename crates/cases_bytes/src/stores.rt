@@ -1,7 +1,7 @@
 // Numbers and runs of bytes stored at places of a lent slice.
+use crate::reads;
 use crate::reads::BYTES;
 use crate::reads::TOP;
-use crate::text;
 
 // How many bytes, the number, the byte order and the place.
 const NUMBERS: [[u64; 4]; 14] = [
@@ -27,16 +27,14 @@ const RUNS: [[u64; 2]; 3] = [[3, 3], [3, 7], [9, TOP]];
 // What is stored, and its name.
 fn show_what(width: u8, x: u64, order: u8) {
     if width == 1 {
-        text::word(b"put_byte ");
-        text::hex(x, 2);
+        say::word(b"put_byte ");
+        say::hex(x, 2);
         return;
     }
-    text::word(b"put_u");
-    text::number(8 * (width as u64));
-    text::word(b" ");
-    text::hex(x, 2 * (width as usize));
-    text::word(b" order ");
-    text::number(order as u64);
+    say::named(b"put_u", 8 * (width as u64));
+    say::word(b" ");
+    say::hex(x, 2 * (width as usize));
+    say::named(b" order ", order as u64);
 }
 
 fn store(out: &mut [u8], width: u8, x: u64, order: u8, at: usize) {
@@ -54,10 +52,10 @@ fn show_number(row: [u64; 4]) {
     let at = row[3] as usize;
     let mut buf = [0xeeu8; 9];
     show_what(width, row[1], order);
-    text::place(at, &buf);
+    reads::place(at, &buf);
     store(&mut buf, width, row[1], order, at);
-    text::bytes(&buf);
-    text::word(b"\n");
+    say::bytes(&buf);
+    say::word(b"\n");
 }
 
 pub(crate) fn run_numbers() {
@@ -68,12 +66,12 @@ pub(crate) fn run_numbers() {
 
 fn show_run(run: &[u8], at: usize) {
     let mut buf = [0xeeu8; 9];
-    text::word(b"put ");
-    text::bytes(run);
-    text::place(at, &buf);
+    say::word(b"put ");
+    say::bytes(run);
+    reads::place(at, &buf);
     wire::put(&mut buf, at, run);
-    text::bytes(&buf);
-    text::word(b"\n");
+    say::bytes(&buf);
+    say::word(b"\n");
 }
 
 fn show_first(s: &[u8], row: [u64; 2]) {

@@ -1,17 +1,17 @@
--- `cases_values::reads::run_sames` is safe and ends: each turn leaves fewer cases. Assumes nothing.
+-- `cases_bytes::stores::run_runs` is safe and ends: each turn leaves fewer cases. Assumes nothing.
 use Prim.Native.Nat.{_≤_, _-_}
 use borrow.Author.Needs.{needs}
-use Rattle.cases_values.proofs.reads.run_sames.Statement.{statement}
-use Rattle.cases_values.proofs.reads.run_sames.Tie as tie
+use Rattle.cases_bytes.proofs.stores.run_runs.Statement.{statement}
+use Rattle.cases_bytes.proofs.stores.run_runs.Tie as tie
 
 abbrev Inv-loop : tie.InvT-loop
-Inv-loop run i₀ i = i ≤ 4
+Inv-loop bytes i₀ i = i ≤ 3
 
 abbrev μ-loop : tie.MeasureT-loop
-μ-loop run i₀ i = 4 - i
+μ-loop bytes i₀ i = 3 - i
 
-pub run-sames-spec : {M : Type 1} → statement M
-run-sames-spec =
+pub run-runs-spec : {M : Type 1} → statement M
+run-runs-spec =
     tie.close
     (tie.spec
     Inv-loop

@@ -1,8 +1,8 @@
--- `cases_values::reads::run_places` is safe and ends: each turn leaves fewer cases. Assumes nothing.
+-- `cases_bytes::reads::run_places` is safe and ends: each turn leaves fewer cases. Assumes nothing.
 use Prim.Native.Nat.{_≤_, _-_}
 use borrow.Author.Needs.{needs}
-use Rattle.cases_values.proofs.reads.run_places.Statement.{statement}
-use Rattle.cases_values.proofs.reads.run_places.Tie as tie
+use Rattle.cases_bytes.proofs.reads.run_places.Statement.{statement}
+use Rattle.cases_bytes.proofs.reads.run_places.Tie as tie
 
 abbrev Inv-loop : tie.InvT-loop
 Inv-loop bytes i₀ i = i ≤ 3

@@ -1,8 +1,8 @@
--- `cases_values::reads::run_pieces` is safe and ends: each turn leaves fewer cases. Assumes nothing.
+-- `cases_bytes::reads::run_pieces` is safe and ends: each turn leaves fewer cases. Assumes nothing.
 use Prim.Native.Nat.{_≤_, _-_}
 use borrow.Author.Needs.{needs}
-use Rattle.cases_values.proofs.reads.run_pieces.Statement.{statement}
-use Rattle.cases_values.proofs.reads.run_pieces.Tie as tie
+use Rattle.cases_bytes.proofs.reads.run_pieces.Statement.{statement}
+use Rattle.cases_bytes.proofs.reads.run_pieces.Tie as tie
 
 abbrev Inv-loop : tie.InvT-loop
 Inv-loop bytes i₀ i = i ≤ 4

@@ -1,11 +1,11 @@
--- `cases_values::text::signed` is safe: -1 minus a number below 0 is in range, and so is that with 1 added. Assumes nothing.
+-- `say::signed` is safe: -1 minus a number below 0 is in range, and so is that with 1 added. Assumes nothing.
 use mir.Syntax.{w64}
 use mir.Val.{SFits, toZ, ofZ}
 use mir.Facts.{toZ-ofZ}
-use Rattle.cases_values.proofs.Signed.{keeps, flips, casts, adds}
+use Rattle.say.proofs.Distance.{keeps, flips, casts, adds}
 use borrow.Author.Needs.{needs}
-use Rattle.cases_values.proofs.text.signed.Statement.{statement}
-use Rattle.cases_values.proofs.text.signed.Tie as tie
+use Rattle.say.proofs.signed.Statement.{statement}
+use Rattle.say.proofs.signed.Tie as tie
 
 -- what the parameter's bits read as is in range
 held : (c : tie.Start) → SFits w64 (toZ w64 (ofZ w64 (c .args .n)))

@@ -1,5 +1,4 @@
 // Bytes and numbers read at places of a run of bytes.
-use crate::text;
 
 pub const BYTES: [u8; 9] = [0x01, 0x23, 0x45, 0x67, 0x89, 0xab, 0xcd, 0xef, 0x5a];
 
@@ -35,35 +34,43 @@ const RUN: [u8; 6] = [1, 2, 1, 2, 1, 3];
 // Two pieces of RUN: place and length of one, and of the other.
 const PAIRS: [[u64; 4]; 4] = [[0, 2, 2, 2], [0, 2, 4, 2], [0, 2, 0, 3], [0, 0, 6, 0]];
 
+// A place of a run of bytes, which ends what is asked.
+pub(crate) fn place(at: usize, s: &[u8]) {
+    say::named(b" at ", at as u64);
+    say::word(b" of ");
+    say::bytes(s);
+    say::word(b": ");
+}
+
 fn show_byte(s: &[u8], at: usize) {
-    text::word(b"byte");
-    text::place(at, s);
-    text::byte(wire::byte_at(s, at));
-    text::word(b"\n");
+    say::word(b"byte");
+    place(at, s);
+    say::byte(wire::byte_at(s, at));
+    say::word(b"\n");
 }
 
 fn show_left(s: &[u8], at: usize) {
-    text::word(b"left");
-    text::place(at, s);
-    text::number(wire::left(s, at) as u64);
-    text::word(b"\n");
+    say::word(b"left");
+    place(at, s);
+    say::number(wire::left(s, at) as u64);
+    say::word(b"\n");
 }
 
 fn show_rest(s: &[u8], at: usize) {
-    text::word(b"rest");
-    text::place(at, s);
-    text::bytes(wire::rest(s, at));
-    text::word(b"\n");
+    say::word(b"rest");
+    place(at, s);
+    say::bytes(wire::rest(s, at));
+    say::word(b"\n");
 }
 
 fn show_fill(s: &[u8], at: usize) {
     let mut buf = [0xeeu8; 4];
-    text::word(b"fill ");
-    text::bytes(&buf);
-    text::place(at, s);
+    say::word(b"fill ");
+    say::bytes(&buf);
+    place(at, s);
     wire::fill(&mut buf, s, at);
-    text::bytes(&buf);
-    text::word(b"\n");
+    say::bytes(&buf);
+    say::word(b"\n");
 }
 
 fn show_place(s: &[u8], at: usize) {
@@ -93,13 +100,11 @@ fn show_number(s: &[u8], row: [u64; 3]) {
     let width = (row[0] % 256) as u8;
     let order = (row[1] % 256) as u8;
     let at = row[2] as usize;
-    text::word(b"u");
-    text::number(8 * (width as u64));
-    text::word(b" order ");
-    text::number(order as u64);
-    text::place(at, s);
-    text::hex(number_at(s, width, order, at), 2 * (width as usize));
-    text::word(b"\n");
+    say::named(b"u", 8 * (width as u64));
+    say::named(b" order ", order as u64);
+    place(at, s);
+    say::hex(number_at(s, width, order, at), 2 * (width as usize));
+    say::word(b"\n");
 }
 
 pub(crate) fn run_numbers() {
@@ -112,11 +117,10 @@ pub(crate) fn run_numbers() {
 fn show_piece(s: &[u8], row: [u64; 2]) {
     let n = row[0] as usize;
     let at = row[1] as usize;
-    text::word(b"piece ");
-    text::number(n as u64);
-    text::place(at, s);
-    text::bytes(wire::piece(s, at, n));
-    text::word(b"\n");
+    say::named(b"piece ", n as u64);
+    place(at, s);
+    say::bytes(wire::piece(s, at, n));
+    say::word(b"\n");
 }
 
 pub(crate) fn run_pieces() {
@@ -127,14 +131,14 @@ pub(crate) fn run_pieces() {
 }
 
 fn show_same(a: &[u8], b: &[u8]) {
-    text::word(b"same ");
-    text::bytes(a);
-    text::word(b" ");
-    text::bytes(b);
+    say::word(b"same ");
+    say::bytes(a);
+    say::word(b" ");
+    say::bytes(b);
     if wire::same(a, b) {
-        text::word(b": yes\n");
+        say::word(b": yes\n");
     } else {
-        text::word(b": no\n");
+        say::word(b": no\n");
     }
 }
 

@@ -1,10 +1,10 @@
--- `cases::text::name` is safe and ends: each turn leaves fewer bytes. Assumes nothing.
+-- `say::trimmed` is safe and ends: each turn leaves fewer bytes. Assumes nothing.
 use Prim.Native.Nat.{_≤_, _-_}
 use mathlib.Core.Path.{_≡_}
 use lib.ListN.{length}
 use borrow.Author.Needs.{needs}
-use Rattle.cases.proofs.text.name.Statement.{statement}
-use Rattle.cases.proofs.text.name.Tie as tie
+use Rattle.say.proofs.trimmed.Statement.{statement}
+use Rattle.say.proofs.trimmed.Tie as tie
 
 abbrev Inv-loop : tie.InvT-loop
 Inv-loop s n₀ i₀ i-end n i = (i ≤ i-end) × (i-end ≡ length s)
@@ -12,8 +12,8 @@ Inv-loop s n₀ i₀ i-end n i = (i ≤ i-end) × (i-end ≡ length s)
 abbrev μ-loop : tie.MeasureT-loop
 μ-loop s n₀ i₀ i-end n i = i-end - i
 
-pub name-spec : {M : Type 1} → statement M
-name-spec =
+pub trimmed-spec : {M : Type 1} → statement M
+trimmed-spec =
     tie.close
     (tie.spec
     Inv-loop
