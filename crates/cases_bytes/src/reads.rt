@@ -135,11 +135,7 @@ fn show_same(a: &[u8], b: &[u8]) {
     say::bytes(a);
     say::word(b" ");
     say::bytes(b);
-    if wire::same(a, b) {
-        say::word(b": yes\n");
-    } else {
-        say::word(b": no\n");
-    }
+    say::choice(wire::same(a, b), b": yes\n", b": no\n");
 }
 
 fn show_pair(s: &[u8], row: [u64; 4]) {

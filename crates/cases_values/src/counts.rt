@@ -106,8 +106,8 @@ fn show(row: [u64; 4]) {
     say::hex(row[0], 16);
     say::word(b" ");
     say::hex(row[1], 16);
-    say::named(b" ", bits as u64);
-    say::named(b" ", count as u64);
+    say::two(bits);
+    say::two(count);
     say::word(b": ");
     answer(reading::read(reading::calibration_of(row[0], row[1], bits), count));
     say::word(b"\n");

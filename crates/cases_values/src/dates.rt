@@ -46,9 +46,10 @@ fn answer(d: Dated) {
 }
 
 fn show(row: [u32; 3]) {
-    say::named(b"date ", row[0] as u64);
-    say::named(b" ", row[1] as u64);
-    say::named(b" ", row[2] as u64);
+    say::word(b"date");
+    say::four(row[0]);
+    say::four(row[1]);
+    say::four(row[2]);
     say::word(b": ");
     answer(calendar::day_of(row[0], row[1], row[2]));
     say::word(b"\n");

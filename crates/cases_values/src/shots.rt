@@ -49,8 +49,8 @@ fn timeline_of(x: u32) -> u16 {
 }
 
 fn show_shot(day: u32, timeline: u16) {
-    say::named(b" ", day as u64);
-    say::named(b" ", timeline as u64);
+    say::four(day);
+    say::two(timeline);
 }
 
 fn answer_slot(s: Slotted) {

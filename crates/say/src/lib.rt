@@ -18,6 +18,19 @@ pub fn named(s: &[u8], n: u64) {
     number(n);
 }
 
+// Numbers of one, two and four bytes, each after a blank: so no caller has to prove a cast.
+pub fn one(n: u8) {
+    named(b" ", n as u64);
+}
+
+pub fn two(n: u16) {
+    named(b" ", n as u64);
+}
+
+pub fn four(n: u32) {
+    named(b" ", n as u64);
+}
+
 // A number that may be negative.
 pub fn signed(n: i64) {
     if n < 0 {
@@ -68,8 +81,9 @@ pub fn trimmed(s: &[u8]) {
 // The paper's number of a refusal, and its block.
 pub fn refusal(t: Refusal) {
     let why = t.why;
-    named(b"NO ", rules::number_of(why) as u64);
-    named(b" ", t.block as u64);
+    word(b"NO");
+    one(rules::number_of(why));
+    one(t.block);
 }
 
 // What was done where nothing is wrong, or the refusal.
@@ -77,5 +91,14 @@ pub fn verdict(v: Verdict, done: &[u8]) {
     match v {
         Verdict::Fine => word(done),
         Verdict::Refused(t) => refusal(t),
+    }
+}
+
+// One of two words.
+pub fn choice(yes: bool, a: &[u8], b: &[u8]) {
+    if yes {
+        word(a);
+    } else {
+        word(b);
     }
 }

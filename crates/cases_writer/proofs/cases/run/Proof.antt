@@ -1,17 +1,17 @@
--- `cases::text::digits` is safe and ends: each turn leaves fewer digits. Assumes nothing.
+-- `cases_writer::cases::run` is safe and ends: each turn leaves fewer cases. Assumes nothing.
 use Prim.Native.Nat.{_≤_, _-_}
 use borrow.Author.Needs.{needs}
-use Rattle.cases.proofs.text.digits.Statement.{statement}
-use Rattle.cases.proofs.text.digits.Tie as tie
+use Rattle.cases_writer.proofs.cases.run.Statement.{statement}
+use Rattle.cases_writer.proofs.cases.run.Tie as tie
 
 abbrev Inv-loop : tie.InvT-loop
-Inv-loop n d₀ n₀ i₀ d n' i = i ≤ 10
+Inv-loop i₀ i = i ≤ 85
 
 abbrev μ-loop : tie.MeasureT-loop
-μ-loop n d₀ n₀ i₀ d n' i = 10 - i
+μ-loop i₀ i = 85 - i
 
-pub digits-spec : {M : Type 1} → statement M
-digits-spec =
+pub run-spec : {M : Type 1} → statement M
+run-spec =
     tie.close
     (tie.spec
     Inv-loop
@@ -21,6 +21,8 @@ digits-spec =
     (λ c. search needs)
     (λ c. search needs)
     (λ c. search needs)
+    (λ c. search needs)
+    (λ c κs. search needs)
     (λ c. search needs)
     (λ c. search needs)
     (λ c. search needs)
