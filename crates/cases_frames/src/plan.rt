@@ -1,0 +1,223 @@
+// A plan: what a slate, a file and a question are made of, each part at its place.
+// A step is a number: what is done, the part that is changed for it, and that part's value below 2 to the 32.
+use crate::text;
+use slate::Slate;
+use slate::Slated;
+ghost use Prim.Native.Nat.{_<_};
+
+// The part, of which there are 19, and what is done are multiples of these.
+pub const PART: usize = 0x1_0000_0000;
+
+pub const DEED: usize = 19 * PART;
+
+// Nothing yet: the change is for the next step.
+pub const AND: usize = 0 * DEED;
+
+pub const TRY: usize = 1 * DEED;
+
+pub const OPEN: usize = 2 * DEED;
+
+pub const OFFER: usize = 3 * DEED;
+
+pub const ASK: usize = 4 * DEED;
+
+// The strip is shown as it lies there.
+pub const SHOW: usize = 5 * DEED;
+
+// One number is marked by hand, or all 99 are.
+pub const MARK: usize = 6 * DEED;
+
+pub const FILL: usize = 7 * DEED;
+
+// The parts of a slate; a file has them, too.
+pub const SATELLITE: usize = 1 * PART;
+
+pub const DAY: usize = 2 * PART;
+
+pub const TIMELINE: usize = 3 * PART;
+
+pub const BAND: usize = 4 * PART;
+
+pub const AREA: usize = 5 * PART;
+
+pub const COLUMNS: usize = 6 * PART;
+
+pub const TOTAL: usize = 7 * PART;
+
+pub const LINES: usize = 8 * PART;
+
+// The parts of a file alone: its number times 1,000 and its first line,
+pub const SEGMENT: usize = 9 * PART;
+
+pub const ORDER: usize = 10 * PART;
+
+// which counts it has: those of a take tell it, the first line and their places; take 0 is all 65,534,
+pub const TAKE: usize = 11 * PART;
+
+// how many entries each of its blocks 8 to 10 has, 0 or 1,
+pub const ENTRIES: usize = 12 * PART;
+
+// a byte that is damaged: its place times 256, and the byte,
+pub const BYTE: usize = 13 * PART;
+
+// and how many bytes there are.
+pub const BYTES: usize = 14 * PART;
+
+// How many counts the lent strip and leader have, the line that is asked for, and the number that is marked.
+pub const STRIP: usize = 15 * PART;
+
+pub const LEADER: usize = 16 * PART;
+
+pub const LINE: usize = 17 * PART;
+
+pub const NUMBER: usize = 18 * PART;
+
+// Segment 1 of ten; its damaged byte lies past its end.
+pub const MODEL: [usize; 19] = [
+    0,
+    8,
+    57210,
+    200,
+    13,
+    0x464c_444b,
+    4,
+    10,
+    2,
+    1_001,
+    0,
+    1,
+    0,
+    0xffff_00,
+    1479,
+    80,
+    4,
+    1,
+    1,
+];
+
+fn place(x: usize) -> usize
+    ensures { λ r. ⌜ r < 19 ⌝ }
+{
+    x / PART % 19
+}
+
+fn value(x: usize) -> usize
+    ensures { λ r. ⌜ r < 4294967296 ⌝ }
+{
+    x % PART
+}
+
+pub(crate) fn of(p: [usize; 19], part: usize) -> usize {
+    p[place(part)]
+}
+
+pub(crate) fn long(p: [usize; 19], part: usize) -> u32 {
+    (of(p, part) % PART) as u32
+}
+
+pub(crate) fn short(p: [usize; 19], part: usize) -> u16 {
+    (of(p, part) % 65536) as u16
+}
+
+pub(crate) fn byte(p: [usize; 19], part: usize) -> u8 {
+    (of(p, part) % 256) as u8
+}
+
+pub(crate) fn number(p: [usize; 19]) -> u8 {
+    (of(p, SEGMENT) / 1000 % 256) as u8
+}
+
+pub(crate) fn first(p: [usize; 19]) -> u16 {
+    (of(p, SEGMENT) % 1000) as u16
+}
+
+pub(crate) fn changed(p: [usize; 19], x: usize) -> [usize; 19] {
+    let mut q = p;
+    q[place(x)] = value(x);
+    q
+}
+
+// The model with another cut, and with the strip and the file that go with it.
+pub(crate) fn cut(
+    columns: usize,
+    total: usize,
+    lines: usize,
+    strip: usize,
+    bytes: usize,
+) -> [usize; 19] {
+    let mut p = MODEL;
+    p[place(COLUMNS)] = columns;
+    p[place(TOTAL)] = total;
+    p[place(LINES)] = lines;
+    p[place(STRIP)] = strip;
+    p[place(BYTES)] = bytes;
+    p
+}
+
+pub(crate) fn slate_of(p: [usize; 19]) -> Slated {
+    Slate::new(
+        byte(p, SATELLITE),
+        long(p, DAY),
+        short(p, TIMELINE),
+        short(p, BAND),
+        long(p, AREA),
+        short(p, COLUMNS),
+        byte(p, TOTAL),
+        short(p, LINES),
+    )
+}
+
+// Two numbers in one value.
+fn pair(a: usize, between: &[u8], b: usize) {
+    text::number(a as u64);
+    text::word(between);
+    text::number(b as u64);
+}
+
+fn tell_value(part: usize, x: usize) {
+    let mut letters = [0u8; 4];
+    match part {
+        5 => {
+            wire::put_u32(&mut letters, 0, (x % PART) as u32, 1);
+            text::word(&letters);
+        }
+        9 => pair(x / 1000, b" from line ", x % 1000),
+        13 => pair(x / 256, b" as ", x % 256),
+        _ => text::number(x as u64),
+    }
+}
+
+// The parts' names, each in 10 bytes.
+fn tell_name(part: usize) {
+    let names = b"\
+        none      \
+        satellite \
+        day       \
+        timeline  \
+        band      \
+        area      \
+        columns   \
+        total     \
+        lines     \
+        segment   \
+        order     \
+        take      \
+        entries   \
+        byte      \
+        bytes     \
+        strip     \
+        leader    \
+        line      \
+        number    ";
+    text::name(wire::piece(names, 10 * (part % 19), 10));
+}
+
+// Tells of a change, where it is one.
+pub(crate) fn tell(x: usize) {
+    let part = place(x);
+    if part != 0 {
+        tell_name(part);
+        tell_value(part, value(x));
+        text::word(b", ");
+    }
+}
