@@ -10,7 +10,6 @@ mod order;
 mod plan;
 mod set;
 mod show;
-mod text;
 
 fn main() {
     // the longest file that the listing reads

@@ -2,7 +2,6 @@
 use crate::change;
 use crate::change::WHAT;
 use crate::plan;
-use crate::text;
 
 // Added to a number or a length once for each block, and to a byte of block 1 once for each byte before it.
 pub const BLOCK: usize = WHAT;
@@ -261,9 +260,20 @@ fn field_of(what: usize) -> usize {
     1_0000_14 + 100 * (what % 1000)
 }
 
+// The last ten digits of a number.
+fn digits(n: usize) -> [u8; 10] {
+    let mut d = [0u8; 10];
+    let mut n = n;
+    for i in 0..10 {
+        d[9 - i] = 48 + (n % 10) as u8;
+        n /= 10;
+    }
+    d
+}
+
 // Letters and digits stand in a file as they are read, in either byte order.
 fn put(out: &mut [u8], at: usize, field: usize, n: usize, order: u8) {
-    let d = text::digits(n);
+    let d = digits(n);
     match field % 100 {
         ONE | BARE => wire::put_byte(out, at, (n % 256) as u8),
         TWO => wire::put_u16(out, at, (n % 65536) as u16, order),
@@ -291,23 +301,23 @@ pub(crate) fn apply(out: &mut [u8], p: [usize; 22], x: usize) {
 }
 
 fn tell_value(field: usize, value: usize) {
+    say::word(b" ");
     match field % 100 {
-        LETTERS => text::letters((value % WHAT) as u32),
-        UPPER => text::hex(value as u64, 8),
-        BARE => text::hex(value as u64, 2),
-        _ => text::number(value),
+        LETTERS => say::letters((value % WHAT) as u32),
+        UPPER => say::hex(value as u64, 8),
+        BARE => say::hex(value as u64, 2),
+        _ => say::number(value as u64),
     }
 }
 
 fn tell_name(what: usize) {
     if what < 1000 {
         let names = NAMES;
-        text::word(b" ");
-        text::name(wire::piece(&names, 16 * what, 16));
+        say::word(b" ");
+        say::trimmed(wire::piece(&names, 16 * what, 16));
         return;
     }
-    text::word(b" byte");
-    text::number(what - 1000);
+    say::named(b" byte ", (what - 1000) as u64);
 }
 
 // Tells of a change, where it is one.
@@ -318,10 +328,9 @@ pub(crate) fn tell(x: usize) {
     }
     let field = field_of(what);
     let block = field / 1000000;
-    text::word(b",");
+    say::word(b",");
     if block != 0 {
-        text::word(b" set block");
-        text::number(block);
+        say::named(b" set block ", block as u64);
     }
     tell_name(what);
     tell_value(field, change::value(x));

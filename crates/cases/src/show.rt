@@ -2,19 +2,17 @@
 use crate::change;
 use crate::make;
 use crate::set;
-use crate::text;
 use accept::Answer;
 use accept::Facts;
-use rules::Refusal;
 
 fn tell(x: [usize; 4]) {
     if x[0] / change::FILE % 2 == 1 {
-        text::word(b"little");
+        say::word(b"little");
     } else {
-        text::word(b"big");
+        say::word(b"big");
     }
     if change::LITTLE_FULL <= x[0] {
-        text::word(b" full");
+        say::word(b" full");
     }
     set::tell(x[0]);
     set::tell(x[1]);
@@ -24,40 +22,36 @@ fn tell(x: [usize; 4]) {
 
 // What the listing writes.
 fn tell_shot(f: Facts) {
-    text::word(b": OK");
-    text::one(f.satellite);
-    text::four(f.day);
-    text::two(f.timeline);
-    text::two(f.band);
-    text::letters(f.area);
-    text::two(f.columns);
-    text::two(f.lines);
-    text::one(f.number);
-    text::one(f.total);
-    text::two(f.first);
+    say::word(b": OK");
+    say::one(f.satellite);
+    say::four(f.day);
+    say::two(f.timeline);
+    say::two(f.band);
+    say::word(b" ");
+    say::letters(f.area);
+    say::two(f.columns);
+    say::two(f.lines);
+    say::one(f.number);
+    say::one(f.total);
+    say::two(f.first);
 }
 
 // The facts that the listing leaves out.
 fn tell_rest(f: Facts) {
-    text::word(b", order and bits");
-    text::one(f.order);
-    text::two(f.bits);
-    text::word(b", entries and header");
-    text::two(f.a);
-    text::two(f.b);
-    text::two(f.c);
-    text::four(f.header);
-    text::word(b", quality and calibration");
-    text::one(f.quality);
-    text::hex(f.gain, 16);
-    text::hex(f.constant, 16);
-}
-
-fn refused(t: Refusal) {
-    let why = t.why;
-    text::word(b": NO");
-    text::one(rules::number_of(why));
-    text::one(t.block);
+    say::word(b", order and bits");
+    say::one(f.order);
+    say::two(f.bits);
+    say::word(b", entries and header");
+    say::two(f.a);
+    say::two(f.b);
+    say::two(f.c);
+    say::four(f.header);
+    say::word(b", quality and calibration");
+    say::one(f.quality);
+    say::word(b" ");
+    say::hex(f.gain, 16);
+    say::word(b" ");
+    say::hex(f.constant, 16);
 }
 
 fn answer(a: Answer) {
@@ -66,9 +60,12 @@ fn answer(a: Answer) {
             tell_shot(f);
             tell_rest(f);
         }
-        Answer::Refused(t) => refused(t),
+        Answer::Refused(t) => {
+            say::word(b": ");
+            say::refusal(t);
+        }
     }
-    text::word(b"\n");
+    say::word(b"\n");
 }
 
 fn length(n: usize, x: [usize; 4]) -> usize {

@@ -1,9 +1,11 @@
 // Headers that are written, read back and written again.
 use crate::lists;
-use crate::text;
 use crate::values;
 use header::Header;
 use rules::Verdict;
+
+// The byte that every output is filled with before a case: it shows what was kept.
+const BLANK: u8 = 0xaa;
 
 // The counts of 4 columns and 2 lines.
 const COUNTS: [u8; 16] = [1, 2, 3, 4, 5, 6, 7, 8, 9, 10, 11, 12, 13, 14, 15, 16];
@@ -28,16 +30,22 @@ const CASES: [[u32; 4]; 16] = [
     [1, 0, 0, 14630],
 ];
 
+// Whether every byte from a place on is still the one that outputs are filled with.
+fn blank_from(out: &[u8], at: usize) -> bool {
+    let blank = [BLANK; 60000];
+    wire::same(wire::rest(out, at), wire::rest(&blank, at))
+}
+
 fn title(row: [u32; 4]) {
-    text::word(b"order ");
-    text::number(row[0] as u64);
-    text::word(b" a ");
-    text::number(row[1] as u64);
-    text::word(b" b ");
-    text::number(row[2] as u64);
-    text::word(b" c ");
-    text::number(row[3] as u64);
-    text::word(b": header ");
+    say::word(b"order");
+    say::four(row[0]);
+    say::word(b" a");
+    say::four(row[1]);
+    say::word(b" b");
+    say::four(row[2]);
+    say::word(b" c");
+    say::four(row[3]);
+    say::word(b": header ");
 }
 
 // Reads the entries of a file, and writes them with its values; a refusal to read them is told.
@@ -49,60 +57,61 @@ fn rewrite(out: &mut [u8], file: &[u8], h: Header) -> Verdict {
     let mut times = [0u64; 8192];
     let mut lines10 = [0u16; 16384];
     let mut pixels = [0u16; 16384];
-    text::verdict(
+    say::verdict(
         reader::read_shifts(file, &mut lines8, &mut xs, &mut ys),
         b"",
     );
-    text::verdict(reader::read_times(file, &mut lines9, &mut times), b"");
-    text::verdict(reader::read_errors(file, &mut lines10, &mut pixels), b"");
+    say::verdict(reader::read_times(file, &mut lines9, &mut times), b"");
+    say::verdict(reader::read_errors(file, &mut lines10, &mut pixels), b"");
     let a = header::a_of(file) as usize;
     let b = header::b_of(file) as usize;
     let c = header::c_of(file) as usize;
     writer::write(
         out,
         h,
-        lists::first16(&lines8, a),
-        lists::first32(&xs, a),
-        lists::first32(&ys, a),
-        lists::first16(&lines9, b),
-        lists::first64(&times, b),
-        lists::first16(&lines10, c),
-        lists::first16(&pixels, c),
+        lists::part16(&lines8, 0, a),
+        lists::part32(&xs, 0, a),
+        lists::part32(&ys, 0, a),
+        lists::part16(&lines9, 0, b),
+        lists::part64(&times, b),
+        lists::part16(&lines10, 0, c),
+        lists::part16(&pixels, 0, c),
     )
 }
 
 // Reads a file of n bytes of header, and writes that header again. kept: whether the first output's rest was.
 fn again(file: &[u8], n: usize, kept: bool) {
-    let mut out = [text::BLANK; 60000];
+    let mut out = [BLANK; 60000];
     let r = reader::read(file);
     let h = r.header;
     let v = r.verdict;
-    text::verdict(accept::verdict(file), b", accepted");
-    text::verdict(v, b", read");
+    say::verdict(accept::verdict(file), b", accepted");
+    say::verdict(v, b", read");
     let v = rewrite(&mut out, file, h);
-    text::verdict(v, b", written again ");
+    say::verdict(v, b", written again ");
     let same = wire::same(wire::piece(file, 0, n), wire::piece(&out, 0, n));
-    text::choice(same, b"the same", b"OTHERWISE");
-    let kept = kept & text::blank(wire::rest(&out, n));
-    text::choice(kept, b", rest kept\n", b", REST CHANGED\n");
+    say::choice(same, b"the same", b"OTHERWISE");
+    say::choice(
+        kept & blank_from(&out, n),
+        b", rest kept\n",
+        b", REST CHANGED\n",
+    );
 }
 
 fn show(row: [u32; 4]) {
     let order = (row[0] % 256) as u8;
-    let lengths = lists::of(row[1] as usize, row[2] as usize, row[3] as usize);
-    let mut out = [text::BLANK; 60000];
+    let a = row[1] as usize;
+    let b = row[2] as usize;
+    let c = row[3] as usize;
+    let mut out = [BLANK; 60000];
     let counts = COUNTS;
     title(row);
-    let v = lists::write(
-        &mut out,
-        values::named(values::nameless(order), values::DATE),
-        lengths,
-    );
+    let v = lists::write(&mut out, values::named(values::nameless(order)), a, b, c);
     // the length that the header states of itself
     let n = wire::u32_at(&out, 70, order) as usize;
-    text::number(n as u64);
-    text::verdict(v, b", written");
-    let kept = text::blank(wire::rest(&out, n));
+    say::number(n as u64);
+    say::verdict(v, b", written");
+    let kept = blank_from(&out, n);
     wire::put(&mut out, n, &counts);
     again(wire::piece(&out, 0, n + 16), n, kept);
 }

@@ -6,8 +6,8 @@ use header::Block7;
 use header::Block8;
 use header::Header;
 
-// The day that the names tell.
-pub const DATE: u32 = 20150707;
+// The day that the name tells.
+const DATE: [u8; 8] = *b"20150707";
 
 fn block1(order: u8) -> Block1 {
     let mut satellite = [0u8; 16];
@@ -88,26 +88,8 @@ pub(crate) fn nameless(order: u8) -> Header {
     }
 }
 
-fn glyph(x: u32) -> u8 {
-    (48 + x % 10) as u8
-}
-
-// The date yyyymmdd in digits.
-fn digits(d: u32) -> [u8; 8] {
-    [
-        glyph(d / 10000000),
-        glyph(d / 1000000),
-        glyph(d / 100000),
-        glyph(d / 10000),
-        glyph(d / 1000),
-        glyph(d / 100),
-        glyph(d / 10),
-        glyph(d),
-    ]
-}
-
-// The values with the name that they spell on a date.
-pub(crate) fn named(nameless: Header, date: u32) -> Header {
+// The values with the name that they spell.
+pub(crate) fn named(nameless: Header) -> Header {
     let mut h = nameless;
     let mut block1 = h.block1;
     let block5 = h.block5;
@@ -116,7 +98,7 @@ pub(crate) fn named(nameless: Header, date: u32) -> Header {
     let area = block1.area;
     let name = format::name_for(
         format::satellite_of(satellite),
-        digits(date),
+        DATE,
         block1.timeline,
         block5.band,
         area,

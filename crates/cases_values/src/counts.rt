@@ -1,5 +1,4 @@
 // What counts read as.
-use crate::text;
 use reading::Reading;
 
 // The bits of floats that several cases have.
@@ -82,38 +81,36 @@ const COUNTS: [[u64; 4]; 44] = [
 
 // A radiance by its bits. A NaN has none of its own to ask for, and is never expected.
 fn answer_radiance(v: f64) {
-    text::word(b"radiance ");
+    say::word(b"radiance ");
     if v != v {
-        text::word(b"NaN");
+        say::word(b"NaN");
         return;
     }
-    text::hex(f64::to_bits(v), 16);
+    say::hex(f64::to_bits(v), 16);
 }
 
 fn answer(r: Reading) {
     match r {
         Reading::Radiance(v) => answer_radiance(v),
-        Reading::ErrorPixel => text::word(b"error pixel"),
-        Reading::Outside => text::word(b"outside"),
-        Reading::OverRange => text::word(b"over range"),
-        Reading::Uncalibrated => text::word(b"uncalibrated"),
+        Reading::ErrorPixel => say::word(b"error pixel"),
+        Reading::Outside => say::word(b"outside"),
+        Reading::OverRange => say::word(b"over range"),
+        Reading::Uncalibrated => say::word(b"uncalibrated"),
     }
 }
 
 fn show(row: [u64; 4]) {
     let bits = (row[2] % 65536) as u16;
     let count = (row[3] % 65536) as u16;
-    text::word(b"count ");
-    text::hex(row[0], 16);
-    text::word(b" ");
-    text::hex(row[1], 16);
-    text::word(b" ");
-    text::number(bits as u64);
-    text::word(b" ");
-    text::number(count as u64);
-    text::word(b": ");
+    say::word(b"count ");
+    say::hex(row[0], 16);
+    say::word(b" ");
+    say::hex(row[1], 16);
+    say::two(bits);
+    say::two(count);
+    say::word(b": ");
     answer(reading::read(reading::calibration_of(row[0], row[1], bits), count));
-    text::word(b"\n");
+    say::word(b"\n");
 }
 
 pub(crate) fn run() {

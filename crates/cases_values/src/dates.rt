@@ -1,5 +1,4 @@
 // Dates as Modified Julian Days.
-use crate::text;
 use calendar::Dated;
 use rules::Refusal;
 use rules::Why;
@@ -38,8 +37,8 @@ const DATES: [[u32; 3]; 24] = [
 // A date that does not exist breaks the rule of the name, in block 1.
 fn answer(d: Dated) {
     match d {
-        Dated::Day(day) => text::number(day as u64),
-        Dated::NoSuchDate => text::refusal(Refusal {
+        Dated::Day(day) => say::number(day as u64),
+        Dated::NoSuchDate => say::refusal(Refusal {
             why: Why::Name,
             block: 1,
         }),
@@ -47,15 +46,13 @@ fn answer(d: Dated) {
 }
 
 fn show(row: [u32; 3]) {
-    text::word(b"date ");
-    text::number(row[0] as u64);
-    text::word(b" ");
-    text::number(row[1] as u64);
-    text::word(b" ");
-    text::number(row[2] as u64);
-    text::word(b": ");
+    say::word(b"date");
+    say::four(row[0]);
+    say::four(row[1]);
+    say::four(row[2]);
+    say::word(b": ");
     answer(calendar::day_of(row[0], row[1], row[2]));
-    text::word(b"\n");
+    say::word(b"\n");
 }
 
 pub(crate) fn run() {

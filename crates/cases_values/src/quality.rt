@@ -1,5 +1,4 @@
 // The marks of quality flag 1.
-use crate::text;
 use reading::Mark;
 
 const FLAGS: [u8; 12] = [
@@ -22,17 +21,17 @@ fn tell(before: bool, m: Mark, name: &[u8]) -> bool {
     match m {
         Mark::No => before,
         Mark::Yes => {
-            text::word(b" ");
-            text::word(name);
+            say::word(b" ");
+            say::word(name);
             true
         }
     }
 }
 
 fn show(flag: u8) {
-    text::word(b"marks ");
-    text::byte(flag);
-    text::word(b":");
+    say::word(b"marks ");
+    say::byte(flag);
+    say::word(b":");
     let m = reading::marks_of(flag);
     let invalid = m.invalid;
     let sun = m.sun;
@@ -51,9 +50,9 @@ fn show(flag: u8) {
     let any = tell(any, solar_calibration, b"solar_calibration");
     let any = tell(any, eclipse, b"eclipse");
     if !any {
-        text::word(b" none");
+        say::word(b" none");
     }
-    text::word(b"\n");
+    say::word(b"\n");
 }
 
 pub(crate) fn run() {

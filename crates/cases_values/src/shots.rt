@@ -1,5 +1,4 @@
 // Shots: their slots, and their numbers on the film.
-use crate::text;
 use calendar::FilmFrame;
 use calendar::Slotted;
 
@@ -50,26 +49,24 @@ fn timeline_of(x: u32) -> u16 {
 }
 
 fn show_shot(day: u32, timeline: u16) {
-    text::word(b" ");
-    text::number(day as u64);
-    text::word(b" ");
-    text::number(timeline as u64);
+    say::four(day);
+    say::two(timeline);
 }
 
 fn answer_slot(s: Slotted) {
     match s {
-        Slotted::Slot(n) => text::number(n),
-        Slotted::Refused(t) => text::refusal(t),
+        Slotted::Slot(n) => say::number(n),
+        Slotted::Refused(t) => say::refusal(t),
     }
 }
 
 fn show_slot(row: [u32; 2]) {
     let timeline = timeline_of(row[1]);
-    text::word(b"slot");
+    say::word(b"slot");
     show_shot(row[0], timeline);
-    text::word(b": ");
+    say::word(b": ");
     answer_slot(calendar::slot(row[0], timeline));
-    text::word(b"\n");
+    say::word(b"\n");
 }
 
 pub(crate) fn run_slots() {
@@ -80,20 +77,20 @@ pub(crate) fn run_slots() {
 
 fn answer_film(f: FilmFrame) {
     match f {
-        FilmFrame::Number(n) => text::signed(n),
-        FilmFrame::Refused(t) => text::refusal(t),
+        FilmFrame::Number(n) => say::signed(n),
+        FilmFrame::Refused(t) => say::refusal(t),
     }
 }
 
 fn show_film(row: [u32; 4]) {
     let first = timeline_of(row[1]);
     let timeline = timeline_of(row[3]);
-    text::word(b"film");
+    say::word(b"film");
     show_shot(row[0], first);
     show_shot(row[2], timeline);
-    text::word(b": ");
+    say::word(b": ");
     answer_film(calendar::frame_number(row[0], first, row[2], timeline));
-    text::word(b"\n");
+    say::word(b"\n");
 }
 
 pub(crate) fn run_films() {

@@ -231,41 +231,30 @@ pub fn day_or_0(d: Dated) -> u32
     }
 }
 
-// Stores of so many bytes, and of a number in so many digits.
-fn put2(out: &mut [u8], at: usize, b: [u8; 2])
-    ensures { λ _. ⌜ Stored 2 (now (out .entry)) at b (now (out .exit)) ⌝ }
+// The last digit of a number.
+pub fn glyph(x: u32) -> u8
+    ensures { λ r. ⌜ r ≡ 48 + x % 10 ⌝ }
 {
-    wire::put(out, at, &b);
+    (48 + x % 10) as u8
 }
 
-fn put4(out: &mut [u8], at: usize, b: [u8; 4])
-    ensures { λ _. ⌜ Stored 4 (now (out .entry)) at b (now (out .exit)) ⌝ }
-{
-    wire::put(out, at, &b);
-}
-
+// Stores of eight bytes, and of a number in so many digits.
 fn put8(out: &mut [u8], at: usize, b: [u8; 8])
     ensures { λ _. ⌜ Stored 8 (now (out .entry)) at b (now (out .exit)) ⌝ }
 {
     wire::put(out, at, &b);
 }
 
-fn glyph(x: u16) -> u8
-    ensures { λ r. ⌜ r ≡ 48 + x % 10 ⌝ }
-{
-    (48 + x % 10) as u8
-}
-
-fn put_decimal2(out: &mut [u8], at: usize, x: u16)
+fn put_decimal2(out: &mut [u8], at: usize, x: u32)
     ensures { λ _. ⌜ Stored 2 (now (out .entry)) at (decimal 2 x) (now (out .exit)) ⌝ }
 {
-    put2(out, at, [glyph(x / 10), glyph(x)]);
+    wire::put2(out, at, [glyph(x / 10), glyph(x)]);
 }
 
-fn put_decimal4(out: &mut [u8], at: usize, x: u16)
+fn put_decimal4(out: &mut [u8], at: usize, x: u32)
     ensures { λ _. ⌜ Stored 4 (now (out .entry)) at (decimal 4 x) (now (out .exit)) ⌝ }
 {
-    put4(
+    wire::put4(
         out,
         at,
         [
@@ -290,23 +279,23 @@ fn spell(
 )
     ensures { λ _. ⌜ Stored 43 (now (out .entry)) 0 (spelling satellite date timeline band area number total) (now (out .exit)) ⌝ }
 {
-    let resolution = band_of(band).resolution as u16;
-    put4(out, 0, [b'H', b'S', b'_', b'H']);
-    put_decimal2(out, 4, satellite as u16);
+    let resolution = band_of(band).resolution as u32;
+    wire::put4(out, 0, [b'H', b'S', b'_', b'H']);
+    put_decimal2(out, 4, satellite as u32);
     wire::put_byte(out, 6, b'_');
     put8(out, 7, date);
     wire::put_byte(out, 15, b'_');
-    put_decimal4(out, 16, timeline);
-    put2(out, 20, [b'_', b'B']);
-    put_decimal2(out, 22, band);
+    put_decimal4(out, 16, timeline as u32);
+    wire::put2(out, 20, [b'_', b'B']);
+    put_decimal2(out, 22, band as u32);
     wire::put_byte(out, 24, b'_');
-    put4(out, 25, area);
-    put2(out, 29, [b'_', b'R']);
+    wire::put4(out, 25, area);
+    wire::put2(out, 29, [b'_', b'R']);
     put_decimal2(out, 31, resolution);
-    put2(out, 33, [b'_', b'S']);
-    put_decimal2(out, 35, number as u16);
-    put_decimal2(out, 37, total as u16);
-    put4(out, 39, [b'.', b'D', b'A', b'T']);
+    wire::put2(out, 33, [b'_', b'S']);
+    put_decimal2(out, 35, number as u32);
+    put_decimal2(out, 37, total as u32);
+    wire::put4(out, 39, [b'.', b'D', b'A', b'T']);
 }
 
 // The name that the header's values spell.

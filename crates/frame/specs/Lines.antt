@@ -1,6 +1,6 @@
 -- Asking for a line of a frame.
 use Prim.Native.Nat.{ℕ, _-_}
-use mathlib.Core.Bool.{Bool, cond, _&&_}
+use mathlib.Core.Bool.{Bool, cond, _&&_, _||_}
 use mathlib.Core.List.{List, []}
 use lib.ListN.{length, take, drop}
 use lib.Dec.{eqb, leb}
@@ -21,3 +21,7 @@ lineOf s marks frame leader line =
     (take (s .columns) (drop (placeOf s line 1) frame))
     (cond (leb (s .columns) (length leader)) (take (s .columns) leader) []))
     []
+
+-- the line can be shown: its segment is in, or the leader is long enough
+abbrev pub shown : Slate → List Bool → List ℕ → List ℕ → ℕ → Bool
+shown s marks frame leader line = lineGood s marks (length frame) line && (marked marks (coverOf s line) || leb (s .columns) (length leader))

@@ -3,19 +3,12 @@ use accept::Answer;
 use accept::Facts;
 use rules::Refusal;
 ghost use mathlib.Core.Path.{_≡_};
-ghost use Prim.Native.Nat.{_+_, _%_, _≤_};
+ghost use Prim.Native.Nat.{_+_, _≤_};
 ghost use Rattle.wire.specs.Wire.{Stored};
 ghost use Rattle.rules.specs.Rules.{paperOf, says, refuses};
 ghost use Rattle.format.specs.Texts.{decimal};
 ghost use Rattle.accept.specs.Answers.{paperAnswer};
 ghost use Rattle.listing.specs.Lines.{width, plain, four, letters, shot, segment, lineOf, Listed};
-
-// The last digit of a number.
-fn glyph(x: u32) -> u8
-    ensures { λ r. ⌜ r ≡ 48 + x % 10 ⌝ }
-{
-    (48 + x % 10) as u8
-}
 
 // How many digits a number has.
 fn width_of(n: u32) -> usize
@@ -40,7 +33,7 @@ fn put_decimal(out: &mut [u8], at: usize, w: usize, n: u32)
     let mut x = n;
     while 0 < i {
         i -= 1;
-        wire::put_byte(out, at + i, glyph(x));
+        wire::put_byte(out, at + i, format::glyph(x));
         x /= 10;
     }
 }

@@ -1,5 +1,5 @@
 // What the compositors' plug-in calls from C, thin over the proved library.
-mod strips;
+pub mod strips;
 
 use accept::Answer;
 use calendar::FilmFrame;

@@ -17,6 +17,10 @@ use Rattle.wire.proofs.u64_at.Reads as u64-at
 use Rattle.wire.proofs.fill.Reads as fill
 use Rattle.wire.proofs.same.Reads as same
 use Rattle.wire.proofs.put.Reads as put
+use Rattle.wire.proofs.put2.Reads as put2
+use Rattle.wire.proofs.put4.Reads as put4
+use Rattle.wire.proofs.put40.Reads as put40
+use Rattle.wire.proofs.put256.Reads as put256
 use Rattle.wire.proofs.put_byte.Reads as put-byte
 use Rattle.wire.proofs.put_u16.Reads as put-u16
 use Rattle.wire.proofs.put_u32.Reads as put-u32
@@ -42,6 +46,7 @@ use Rattle.format.proofs.good_band.Reads as good-band
 use Rattle.format.proofs.band_of.Reads as band-of
 use Rattle.format.proofs.date_of.Reads as date-of
 use Rattle.format.proofs.day_or_0.Reads as day-or-0
+use Rattle.format.proofs.glyph.Reads as glyph
 use Rattle.format.proofs.name_for.Reads as name-for
 use Rattle.format.proofs.good_name.Reads as good-name
 use Rattle.header.proofs.read_block1.Reads as read-block1
@@ -70,6 +75,7 @@ use Rattle.slate.proofs.Slate.place_of.Reads as place-of
 use Rattle.slate.proofs.Slate.has_line.Reads as has-line
 use Rattle.slate.proofs.Slate.cover_of.Reads as cover-of
 use Rattle.slate.proofs.Slate.matches.Reads as slate-matches
+use Rattle.frame.proofs.empty.Reads as empty
 use Rattle.frame.proofs.is_marked.Reads as is-marked
 use Rattle.frame.proofs.tally.Reads as tally
 use Rattle.frame.proofs.open.Reads as opening
@@ -80,6 +86,9 @@ use Rattle.plugin.proofs.hsd_read_count.Reads as hsd-read-count
 use Rattle.plugin.proofs.hsd_frame_number.Reads as hsd-frame-number
 use Rattle.plugin.proofs.hsd_day.Reads as hsd-day
 use Rattle.plugin.proofs.hsd_valid_bits.Reads as hsd-valid-bits
+use Rattle.plugin.proofs.strips.hsd_open.Reads as hsd-open
+use Rattle.plugin.proofs.strips.hsd_offer.Reads as hsd-offer
+use Rattle.plugin.proofs.strips.hsd_line.Reads as hsd-line
 use Rattle.header.proofs.a_of.Reads as a-of
 use Rattle.header.proofs.b_of.Reads as b-of
 use Rattle.header.proofs.c_of.Reads as c-of
@@ -92,6 +101,7 @@ use Rattle.reader.proofs.read.Reads as read-header-of
 use Rattle.reader.proofs.read_shifts.Reads as read-shifts
 use Rattle.reader.proofs.read_times.Reads as read-times
 use Rattle.reader.proofs.read_errors.Reads as read-errors
+use Rattle.blocks.proofs.write_front.Reads as write-front
 use Rattle.writer.proofs.write.Reads as write
 use Rattle.listing.proofs.line.Reads as line
 
@@ -124,6 +134,18 @@ same-one κ a x y s t p q = p ∙ sym q
 
 pub put-one : One (λ κ x s. now (s .0)) put.Post
 put-one κ a x y s t p q = p ∙ sym q
+
+pub put2-one : One (λ κ x s. now (s .0)) put2.Post
+put2-one κ a x y s t p q = p .is ∙ sym (q .is)
+
+pub put4-one : One (λ κ x s. now (s .0)) put4.Post
+put4-one κ a x y s t p q = p .is ∙ sym (q .is)
+
+pub put40-one : One (λ κ x s. now (s .0)) put40.Post
+put40-one κ a x y s t p q = p .is ∙ sym (q .is)
+
+pub put256-one : One (λ κ x s. now (s .0)) put256.Post
+put256-one κ a x y s t p q = p .is ∙ sym (q .is)
 
 pub put-byte-one : One (λ κ x s. now (s .0)) put-byte.Post
 put-byte-one κ a x y s t p q = p .is ∙ sym (q .is)
@@ -199,6 +221,9 @@ date-of-one κ a x y s t p q = paperDay-one x y (p ∙ sym q)
 
 pub day-or-0-one : One (λ κ x s. x) day-or-0.Post
 day-or-0-one κ a x y s t p q = p ∙ sym q
+
+pub glyph-one : One (λ κ x s. x) glyph.Post
+glyph-one κ a x y s t p q = p ∙ sym q
 
 pub name-for-one : One (λ κ x s. x) name-for.Post
 name-for-one κ a x y s t p q = p ∙ sym q
@@ -291,6 +316,9 @@ pub tally-one : One (λ κ x s. x) tally.Post
 tally-one κ a x y s t p q = p ∙ sym q
 
 -- the verdict with the newest record, and every count of the frame afterwards
+pub empty-one : One (λ κ x s. x) empty.Post
+empty-one κ a x y s t p q i = record { marks = (p ∙ sym q) i }
+
 pub opening-one : One (λ κ x s. x) opening.Post × One (λ κ x s. now (s .1 .0)) opening.Post
 opening-one = (
   λ κ a x y s t p q i. record { verdict = paper-one (x .verdict) (y .verdict) (p .0 ∙ sym (q .0)) i; rec = record { marks = (p .1 .0 ∙ sym (q .1 .0)) i } },
@@ -368,8 +396,29 @@ read-errors-one = (
   (λ κ a x y s t p q. p .lines ∙ sym (q .lines), λ κ a x y s t p q. p .pixels ∙ sym (q .pixels)),
 )
 
+pub write-front-one : One (λ κ x s. now (s .0)) write-front.Post
+write-front-one κ a x y s t p q = p .is ∙ sym (q .is)
+
 pub write-one : One (λ κ x s. x) write.Post × One (λ κ x s. now (s .0)) write.Post
 write-one = (λ κ a x y s t p q. paper-one x y (p .says ∙ sym (q .says)), λ κ a x y s t p q. p .leaves ∙ sym (q .leaves))
 
 pub line-one : One (λ κ x s. x) line.Post × One (λ κ x s. now (s .1 .0)) line.Post
 line-one = (λ κ a x y s t p q. p .long ∙ sym (q .long), λ κ a x y s t p q. p .is ∙ sym (q .is))
+
+pub hsd-open-one : One (λ κ x s. x) hsd-open.Post × (One (λ κ x s. now (s .1 .0)) hsd-open.Post × One (λ κ x s. now (s .1 .1 .0)) hsd-open.Post)
+hsd-open-one = (
+  λ κ a x y s t p q. p .0 ∙ sym (q .0),
+  (λ κ a x y s t p q. p .1 .0 ∙ sym (q .1 .0), λ κ a x y s t p q. p .1 .1 ∙ sym (q .1 .1)),
+)
+
+pub hsd-offer-one : One (λ κ x s. x) hsd-offer.Post × (One (λ κ x s. now (s .1 .0)) hsd-offer.Post × One (λ κ x s. now (s .1 .1 .0)) hsd-offer.Post)
+hsd-offer-one = (
+  λ κ a x y s t p q. p .0 ∙ sym (q .0),
+  (λ κ a x y s t p q. p .1 .0 ∙ sym (q .1 .0), λ κ a x y s t p q. p .1 .1 ∙ sym (q .1 .1)),
+)
+
+pub hsd-line-one : One (λ κ x s. x) hsd-line.Post × One (λ κ x s. now (s .1 .1 .1 .1 .1 .0)) hsd-line.Post
+hsd-line-one = (
+  λ κ a x y s t p q. p .0 ∙ sym (q .0),
+  λ κ a x y s t p q. p .1 ∙ sym (q .1),
+)

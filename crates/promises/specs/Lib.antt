@@ -1,3 +1,4 @@
 -- The words in which the promises are made.
 pub mod Answers
 pub mod Cases
+pub mod Blocks

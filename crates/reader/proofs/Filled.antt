@@ -1,20 +1,30 @@
 -- The rooms after a file's own checks, and what a lent slice holds then. Assumes nothing.
 use mathlib.Core.Path.{_≡_, _∙_}
 use mathlib.Core.List.{List, [], _∷_, _++_}
-use Prim.Native.Nat.{ℕ}
+use Prim.Native.Nat.{ℕ, _≤_}
 use lib.ListN.{drop}
+use borrow.Author.Tests.{leb-true}
 use Rattle.rules.specs.Rules.{Row, Turned, Ruling, fine, refused, judge, after, tables}
 use Rattle.rules.proofs.Judge.{Holds, exactly, tried, table, last, each-is}
 use Rattle.accept.specs.Checks.{checks}
 use Rattle.header.specs.Entries.{column}
-use Rattle.reader.specs.Reads.{ruled, filled}
+use Rattle.reader.specs.Reads.{rooms2, rooms3, ruled, filled}
 
-pub ruling : (s : List ℕ) (rooms found : List Row) {r q : Ruling} → r ≡ judge fine (checks s) → q ≡ judge r found → found ≡ rooms → q ≡ ruled s rooms
-ruling s rooms found e f g = tried (table e (table (f ∙ rw g) last))
+-- the verdict, and then the rooms for as many numbers as the file has
+pub ruling : (s : List ℕ) (rooms : ℕ → List Row) {r q : Ruling} {m n : ℕ} → r ≡ judge fine (checks s) → q ≡ judge r (rooms m) → m ≡ n → q ≡ ruled s (rooms n)
+ruling s rooms e f g = tried (table e (table (f ∙ rw g) last))
 
 -- where none fails, there is room
-pub roomy : (s : List ℕ) (rooms : List Row) → ruled s rooms ≡ fine → Holds rooms
+roomy : (s : List ℕ) (rooms : List Row) → ruled s rooms ≡ fine → Holds rooms
 roomy s rooms e = each-is (checks s ∷ rooms ∷ []) (exactly (tables (checks s ∷ rooms ∷ [])) .0 e) .1 .0
+
+pub roomy2 : (s : List ℕ) {m n x y : ℕ} → ruled s (rooms2 n x y) ≡ fine → m ≡ n → (m ≤ x) × (m ≤ y)
+unfolding rooms2
+roomy2 s e f = let h = roomy s _ e in rw f (leb-true _ _ (h .0), leb-true _ _ (h .1 .0))
+
+pub roomy3 : (s : List ℕ) {m n x y z : ℕ} → ruled s (rooms3 n x y z) ≡ fine → m ≡ n → (m ≤ x) × (m ≤ y) × (m ≤ z)
+unfolding rooms3
+roomy3 s e f = let h = roomy s _ e in rw f (leb-true _ _ (h .0), leb-true _ _ (h .1 .0), leb-true _ _ (h .1 .1 .0))
 
 -- a refusal leaves a slice as it was
 pub kept : {r : Ruling} {t : Turned} (n : ℕ) (new l : List ℕ) → r ≡ refused t → l ≡ filled r n new l

@@ -1,3 +1,3 @@
 -- The laws that the proofs cite.
-pub mod Near
+pub mod Columns
 pub mod Filled

@@ -4,6 +4,12 @@ use libc::STDIN_FILENO;
 use libc::STDOUT_FILENO;
 use rules::Verdict;
 
+// How long a request's image and output are.
+struct Lengths {
+    image: usize,
+    output: usize,
+}
+
 // The byte that every output is filled with before it is written: it shows what was kept.
 const BLANK: u8 = 0xaa;
 
@@ -70,9 +76,40 @@ fn tell(
     io::write_all(STDOUT_FILENO, out);
 }
 
+// No request: no output is so long.
+fn none() -> Lengths {
+    Lengths {
+        image: 0,
+        output: 0xffff_ffff,
+    }
+}
+
+// Reads an image of n bytes into its place, and says whether it is there.
+fn heard(image: &mut [u8], n: usize) -> bool {
+    if image.len() < n {
+        return false;
+    }
+    io::read_full(STDIN_FILENO, &mut image[0..n]) == n
+}
+
+// Reads the next request, its image into its place.
+fn asked(image: &mut [u8]) -> Lengths {
+    let mut sizes = [0u8; 8];
+    if io::read_full(STDIN_FILENO, &mut sizes) < 8 {
+        return none();
+    }
+    let n = wire::u32_at(&sizes, 0, 0) as usize;
+    let output = wire::u32_at(&sizes, 4, 0) as usize;
+    if !heard(image, n) {
+        return none();
+    }
+    Lengths { image: n, output }
+}
+
 // Answers one request, and says whether there was one: a length that is more than its place holds ends the requests, too.
 fn answer(
-    image: &mut [u8],
+    image: &[u8],
+    n: Lengths,
     out: &mut [u8],
     lines8: &mut [u16],
     xs: &mut [u32],
@@ -82,17 +119,9 @@ fn answer(
     lines10: &mut [u16],
     pixels: &mut [u16],
 ) -> bool {
-    let mut sizes = [0u8; 8];
-    if io::read_full(STDIN_FILENO, &mut sizes) < 8 {
-        return false;
-    }
-    let n = wire::u32_at(&sizes, 0, 0) as usize;
-    let room = wire::u32_at(&sizes, 4, 0) as usize;
-    if image.len() < n || out.len() < room {
-        return false;
-    }
-    let s = &mut image[0..n];
-    if io::read_full(STDIN_FILENO, s) < n {
+    let s = wire::piece(image, 0, n.image);
+    let room = n.output;
+    if out.len() < room {
         return false;
     }
     entries::read8(s, lines8, xs, ys);
@@ -116,7 +145,19 @@ pub(crate) fn run(
     pixels: &mut [u16; 65536],
 ) {
     for _ in 0..4_000_000u32 {
-        if !answer(image, out, lines8, xs, ys, lines9, times, lines10, pixels) {
+        let n = asked(image);
+        if !answer(
+            image,
+            n,
+            out,
+            lines8,
+            xs,
+            ys,
+            lines9,
+            times,
+            lines10,
+            pixels,
+        ) {
             return;
         }
     }

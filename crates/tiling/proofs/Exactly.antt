@@ -5,69 +5,28 @@ use mathlib.Core.List.{List, _++_}
 use Prim.Native.Nat.{ℕ, zero, suc, _+_, _*_, _-_, _≤_, _<_, _^_}
 use native.Mathlib.Omega.{arith}
 use lib.ListN.{length, drop, replicate, length-drop, length-replicate}
-use borrow.Author.Tests.{leb-true, eqb-true, le-leb, eq-eqb}
 use Rattle.wire.specs.Wire.{Bytes, span, num}
 use Rattle.wire.proofs.Spans.{length-span}
 use Rattle.wire.proofs.Rows.{tab-lt}
 use Rattle.wire.proofs.Pieces.{num-span-lt}
 use Rattle.rules.specs.Rules.{judge, fine, paper, after, says, reply}
 use Rattle.rules.specs.declared.Verdict.{Verdict}
-use Rattle.rules.proofs.Judge.{holds, exactly, each-is, each-of, said}
+use Rattle.rules.proofs.Judge.{said}
 use Rattle.header.specs.declared.Header.{Header}
 use Rattle.header.specs.Places.{orderOf, aOf, bOf, cOf, at9, at10, headerLength, lengthOf, dataLength}
 use Rattle.header.specs.Values.{block1Of, block2Of, block5Of, block7Of, block8Of, headerOf}
 use Rattle.header.specs.Encode.{Entries, encode}
 use Rattle.header.specs.Entries.{column, entriesOf}
 use Rattle.accept.specs.declared.Facts.{Facts}
-use Rattle.accept.specs.Checks.{checks}
+use Rattle.accept.specs.Checks.{fields2, checks}
 use Rattle.accept.specs.Answers.{factsOf, answerOf}
-use Rattle.writer.specs.Given.{orders, lengths8, lengths9, lengths10, room, given, ruled, Wrote}
+use Rattle.writer.specs.Given.{ruled, Wrote}
+use Rattle.writer.proofs.Good.{Good, size-most, good-is, good-of}
 use Rattle.tiling.specs.Made.{Run, Numbers, Fit, Made, IsAccepted, Readable, Writable}
 use Rattle.accept.proofs.Tables.{Accepted, accepted, accepting}
 use Rattle.tiling.proofs.Back as back
 use Rattle.tiling.proofs.Forth as forth
-use Rattle.tiling.proofs.Forth.{Good}
 use Rattle.tiling.proofs.Eight.{append, of-zeros, encoded}
-
--- what the writer takes is good, and what is good, with room, it takes
-pub good-is : (v : Header) (e : Entries) (n : ℕ) → ruled v e n ≡ fine → Good v e
-unfolding given orders lengths8 lengths9 lengths10
-good-is v e n r =
-    let h = each-is _ (exactly (given v e n) .0 r) in
-    let l8 = h .1 .1 .1 .1 .1 .0 in
-    let l9 = h .1 .1 .1 .1 .1 .1 .0 in
-    let l10 = h .1 .1 .1 .1 .1 .1 .1 .0 in
-    record {
-      order = leb-true _ _ (h .0 .0);
-      fields1 = h .1 .0;
-      fields2 = h .1 .1 .0;
-      fields5 = h .1 .1 .1 .0;
-      fields7 = h .1 .1 .1 .1 .0;
-      few8 = leb-true _ _ (l8 .0);
-      columnShifts = eqb-true _ _ (l8 .1 .0);
-      lineShifts = eqb-true _ _ (l8 .1 .1 .0);
-      few9 = leb-true _ _ (l9 .0);
-      times = eqb-true _ _ (l9 .1 .0);
-      few10 = leb-true _ _ (l10 .0);
-      pixels = eqb-true _ _ (l10 .1 .0);
-      names = h .1 .1 .1 .1 .1 .1 .1 .1 .0;
-    }
-
-pub good-of : (v : Header) (e : Entries) (n : ℕ) → Good v e → headerLength (length (e .lines8)) (length (e .lines9)) (length (e .lines10)) ≤ n → ruled v e n ≡ fine
-unfolding given orders lengths8 lengths9 lengths10 room
-good-of v e n g r =
-    exactly (given v e n) .1
-    (each-of _
-    (holds (holds (le-leb _ _ (g .order)) tt)
-    (holds (g .fields1)
-    (holds (g .fields2)
-    (holds (g .fields5)
-    (holds (g .fields7)
-    (holds (holds (le-leb _ _ (g .few8)) (holds (eq-eqb _ _ (g .columnShifts)) (holds (eq-eqb _ _ (g .lineShifts)) tt)))
-    (holds (holds (le-leb _ _ (g .few9)) (holds (eq-eqb _ _ (g .times)) tt))
-    (holds (holds (le-leb _ _ (g .few10)) (holds (eq-eqb _ _ (g .pixels)) tt))
-    (holds (g .names)
-    (holds (holds (le-leb _ _ r) tt) tt)))))))))))
 
 bytes-span : (s : List ℕ) → Bytes s → (at n : ℕ) → Bytes (span s at n)
 unfolding span
@@ -138,22 +97,29 @@ module _ (s : List ℕ) (b : Bytes s) where
   }
 
   pub good : Accepted s → Good (headerOf s) (entriesOf s)
-  unfolding headerOf entriesOf block1Of
-  good h = record {
-    order = h .shape1 .order;
-    fields1 = h .fields1;
-    fields2 = h .fields2;
-    fields5 = h .fields5;
-    fields7 = h .fields7;
-    few8 = rw (back.long s o 1072 10 2 (aOf s)) (omega (arith, h .block8 .size, number 1052 2));
-    columnShifts = back.long s o 1074 10 4 (aOf s) ∙ sym (back.long s o 1072 10 2 (aOf s));
-    lineShifts = back.long s o 1078 10 4 (aOf s) ∙ sym (back.long s o 1072 10 2 (aOf s));
-    few9 = rw (back.long s o (at9 (aOf s) + 5) 10 2 (bOf s)) (omega (arith, h .block9 .size, number (at9 (aOf s) + 1) 2));
-    times = back.long s o (at9 (aOf s) + 7) 10 8 (bOf s) ∙ sym (back.long s o (at9 (aOf s) + 5) 10 2 (bOf s));
-    few10 = rw (back.long s o (at10 (aOf s) (bOf s) + 7) 4 2 (cOf s)) (omega (arith, number (at10 (aOf s) (bOf s) + 5) 2));
-    pixels = back.long s o (at10 (aOf s) (bOf s) + 9) 4 2 (cOf s) ∙ sym (back.long s o (at10 (aOf s) (bOf s) + 7) 4 2 (cOf s));
-    names = h .names;
-  }
+  unfolding headerOf entriesOf block1Of fields2
+  good h =
+      let at9 = at9 (aOf s) in
+      let at10 = at10 (aOf s) (bOf s) in
+      record {
+        order = h .shape1 .order;
+        fields1 = h .fields1;
+        fields2 = h .fields2;
+        fields5 = h .fields5;
+        fields7 = h .fields7;
+        names = h .names;
+        fits = record {
+          columns = size-most _ (h .fields2 .1 .0);
+          lines = size-most _ (h .fields2 .1 .1 .0);
+          few8 = rw (back.long s o 1072 10 2 (aOf s)) (omega (arith, h .block8 .size, number 1052 2));
+          xs = back.long s o 1074 10 4 (aOf s) ∙ sym (back.long s o 1072 10 2 (aOf s));
+          ys = back.long s o 1078 10 4 (aOf s) ∙ sym (back.long s o 1072 10 2 (aOf s));
+          few9 = rw (back.long s o (at9 + 5) 10 2 (bOf s)) (omega (arith, h .block9 .size, number (at9 + 1) 2));
+          ts = back.long s o (at9 + 7) 10 8 (bOf s) ∙ sym (back.long s o (at9 + 5) 10 2 (bOf s));
+          few10 = rw (back.long s o (at10 + 7) 4 2 (cOf s)) (omega (arith, number (at10 + 5) 2));
+          ps = back.long s o (at10 + 9) 4 2 (cOf s) ∙ sym (back.long s o (at10 + 7) 4 2 (cOf s));
+        };
+      }
 
   -- how long its header is, written as its entries have it
   long-entries : headerLength (length (entriesOf s .lines8)) (length (entriesOf s .lines9)) (length (entriesOf s .lines10)) ≡ lengthOf s
@@ -190,7 +156,7 @@ unfolding answerOf reply
 fine-accepted s e = rw e
 
 only : (s : List ℕ) → Made s → judge fine (checks s) ≡ fine
-only s m = accepting s (subst⁻¹ Accepted (m .is) (forth.accepted-back (m .v) (m .e) (m .counts) (m .fit) (good-is (m .v) (m .e) _ (m .good)) (m .size)))
+only s m = accepting s (subst⁻¹ Accepted (m .is) (forth.accepted-back (m .v) (m .e) (m .counts) (m .fit) (good-is (m .v) (m .e) _ (m .good) .0) (m .size)))
 
 pub made-accepted : (s : List ℕ) → Made s → IsAccepted s
 made-accepted s m = fine-accepted s (only s m)
@@ -215,8 +181,8 @@ takes-back s b e n h =
 -- what is read of a file is what it was made of
 pub reads-back : (s : List ℕ) (m : Made s) → (headerOf s ≡ m .v) × (entriesOf s ≡ m .e)
 reads-back s m = (
-  ap headerOf (m .is) ∙ forth.header-back (m .v) (m .e) (m .counts) (m .fit) (good-is (m .v) (m .e) _ (m .good)) (m .size),
-  ap entriesOf (m .is) ∙ forth.entries-back (m .v) (m .e) (m .counts) (m .fit) (good-is (m .v) (m .e) _ (m .good)) (m .size),
+  ap headerOf (m .is) ∙ forth.header-back (m .v) (m .e) (m .counts) (m .fit) (good-is (m .v) (m .e) _ (m .good) .0) (m .size),
+  ap entriesOf (m .is) ∙ forth.entries-back (m .v) (m .e) (m .counts) (m .fit) (good-is (m .v) (m .e) _ (m .good) .0) (m .size),
 )
 
 -- the writer takes exactly the values that a reader could have read

@@ -10,33 +10,16 @@ use Rattle.wire.specs.Wire.{span, num, digits, join, rows}
 use Rattle.wire.proofs.Numbers.{length-digits}
 use Rattle.wire.proofs.Rows.{length-rows, tab-is}
 use Rattle.wire.proofs.Pieces.{Reads, reads, num-of}
-use Rattle.rules.proofs.Judge.{Holds}
 use Rattle.header.specs.declared.Header.{Header}
 use Rattle.header.specs.Places.{orderOf, aOf, bOf, cOf, at9, at10, at11, headerLength, lengthOf, dataLength}
 use Rattle.header.specs.Values.{block1Of, block2Of, block5Of, block7Of, block8Of, headerOf}
 use Rattle.header.specs.Entries.{column, entriesOf}
 use Rattle.header.specs.Encode.{Entries, bytes1, bytes2, carrying, bytes5, bytes7, entry8, entry9, entry10, bytes8, bytes9, bytes10, encode}
 use Rattle.accept.specs.Checks.{fields1, fields2, fields5, fields7, names}
-use Rattle.writer.proofs.Written.{size-most}
+use Rattle.writer.proofs.Good.{Good}
 use Rattle.tiling.specs.Made.{Fit, Numbers}
 use Rattle.accept.proofs.Tables.{Accepted}
 use Rattle.tiling.proofs.Inside.{inside, row-of}
-
--- values and entries that are good to write
-pub record Good (v : Header) (e : Entries) : Type 0 where
-  pub order : v .block1 .order ≤ 1
-  pub fields1 : Holds (fields1 (v .block1))
-  pub fields2 : Holds (fields2 (v .block2))
-  pub fields5 : Holds (fields5 (v .block5))
-  pub fields7 : Holds (fields7 (v .block7) (v .block2 .lines))
-  pub few8 : length (e .lines8) ≤ 6547
-  pub columnShifts : length (e .columnShifts) ≡ length (e .lines8)
-  pub lineShifts : length (e .lineShifts) ≡ length (e .lines8)
-  pub few9 : length (e .lines9) ≤ 6549
-  pub times : length (e .times) ≡ length (e .lines9)
-  pub few10 : length (e .lines10) ≤ 65535
-  pub pixels : length (e .pixels) ≡ length (e .lines10)
-  pub names : Holds (names (v .block1) (v .block5) (v .block7))
 
 pub first : (s : List ℕ) (at x : ℕ) → span s at 1 ≡ x ∷ [] → getD s at 0 ≡ x
 unfolding span
@@ -207,17 +190,17 @@ module _ (v : Header) (e : Entries) (t : List ℕ) (f : Fit v e) (g : Good v e) 
   eo = first s 5 o (reads1 .1 .1 .1 .0)
 
   ea : aOf s ≡ a
-  ea = num-of o (orderOf s) 2 a _ eo (reads8 .1 .1 .1 .1 .1 .0) (omega (arith, g .few8))
+  ea = num-of o (orderOf s) 2 a _ eo (reads8 .1 .1 .1 .1 .1 .0) (omega (arith, g .fits .few8))
 
   eb : bOf s ≡ b
   eb =
       let q : at9 a + 1 + 2 ≡ at9 a + 3 = omega arith in
-      rw ea (num-of o (orderOf s) 2 b _ eo (rw q at (reads9 .1 .1 .0)) (omega (arith, g .few9)))
+      rw ea (num-of o (orderOf s) 2 b _ eo (rw q at (reads9 .1 .1 .0)) (omega (arith, g .fits .few9)))
 
   ec : cOf s ≡ c
   ec =
       let q : at10 a b + 1 + 4 ≡ at10 a b + 5 = omega arith in
-      rw (eb, ea) (num-of o (orderOf s) 2 c _ eo (rw q at (reads10 .1 .1 .0)) (omega (arith, g .few10)))
+      rw (eb, ea) (num-of o (orderOf s) 2 c _ eo (rw q at (reads10 .1 .1 .0)) (omega (arith, g .fits .few10)))
 
   -- each block reads back as its values
   back1 : block1Of s (orderOf s) ≡ v .block1
@@ -353,12 +336,12 @@ module _ (v : Header) (e : Entries) (t : List ℕ) (f : Fit v e) (g : Good v e) 
       let q9 : at9 a + 5 + 2 ≡ at9 a + 7 = omega arith in
       let q10 : at10 a b + 7 + 2 ≡ at10 a b + 9 = omega arith in
       let l8 : column s (orderOf s) 1072 10 2 (aOf s) ≡ e .lines8 = rw ea (column-back (e .lines8) 1072 10 2 a refl (f .lines8) (λ i z. entries8 i z .0)) in
-      let x8 : column s (orderOf s) 1074 10 4 (aOf s) ≡ e .columnShifts = rw ea (column-back (e .columnShifts) 1074 10 4 a (g .columnShifts) (f .columnShifts) (λ i z. moved 1072 1074 10 2 4 i refl (entries8 i z .1 .0))) in
-      let y8 : column s (orderOf s) 1078 10 4 (aOf s) ≡ e .lineShifts = rw ea (column-back (e .lineShifts) 1078 10 4 a (g .lineShifts) (f .lineShifts) (λ i z. third i (entries8 i z .1 .1 .0))) in
+      let x8 : column s (orderOf s) 1074 10 4 (aOf s) ≡ e .columnShifts = rw ea (column-back (e .columnShifts) 1074 10 4 a (g .fits .xs) (f .columnShifts) (λ i z. moved 1072 1074 10 2 4 i refl (entries8 i z .1 .0))) in
+      let y8 : column s (orderOf s) 1078 10 4 (aOf s) ≡ e .lineShifts = rw ea (column-back (e .lineShifts) 1078 10 4 a (g .fits .ys) (f .lineShifts) (λ i z. third i (entries8 i z .1 .1 .0))) in
       let l9 : column s (orderOf s) (at9 (aOf s) + 5) 10 2 (bOf s) ≡ e .lines9 = rw (eb, ea) (column-back (e .lines9) (at9 a + 5) 10 2 b refl (f .lines9) (λ i z. entries9 i z .0)) in
-      let t9 : column s (orderOf s) (at9 (aOf s) + 7) 10 8 (bOf s) ≡ e .times = rw (eb, ea) (column-back (e .times) (at9 a + 7) 10 8 b (g .times) (f .times) (λ i z. moved (at9 a + 5) (at9 a + 7) 10 2 8 i q9 (entries9 i z .1 .0))) in
+      let t9 : column s (orderOf s) (at9 (aOf s) + 7) 10 8 (bOf s) ≡ e .times = rw (eb, ea) (column-back (e .times) (at9 a + 7) 10 8 b (g .fits .ts) (f .times) (λ i z. moved (at9 a + 5) (at9 a + 7) 10 2 8 i q9 (entries9 i z .1 .0))) in
       let l10 : column s (orderOf s) (at10 (aOf s) (bOf s) + 7) 4 2 (cOf s) ≡ e .lines10 = rw (ec, eb, ea) (column-back (e .lines10) (at10 a b + 7) 4 2 c refl (f .lines10) (λ i z. entries10 i z .0)) in
-      let p10 : column s (orderOf s) (at10 (aOf s) (bOf s) + 9) 4 2 (cOf s) ≡ e .pixels = rw (ec, eb, ea) (column-back (e .pixels) (at10 a b + 9) 4 2 c (g .pixels) (f .pixels) (λ i z. moved (at10 a b + 7) (at10 a b + 9) 4 2 2 i q10 (entries10 i z .1 .0))) in
+      let p10 : column s (orderOf s) (at10 (aOf s) (bOf s) + 9) 4 2 (cOf s) ≡ e .pixels = rw (ec, eb, ea) (column-back (e .pixels) (at10 a b + 9) 4 2 c (g .fits .ps) (f .pixels) (λ i z. moved (at10 a b + 7) (at10 a b + 9) 4 2 2 i q10 (entries10 i z .1 .0))) in
       λ i. record {
         lines8 = l8 i;
         columnShifts = x8 i;
@@ -371,12 +354,10 @@ module _ (v : Header) (e : Entries) (t : List ℕ) (f : Fit v e) (g : Good v e) 
 
   -- the length of the counts fits four bytes: columns and lines are at most 22,000
   few-counts : counts < 256 ^ 4
-  unfolding fields2
   few-counts =
-      let p : v .block2 .columns ≤ 22000 = size-most _ (g .fields2 .1 .0) in
-      let q : v .block2 .lines ≤ 22000 = size-most _ (g .fields2 .1 .1 .0) in
+      let p = g .fits .columns in
       let d : 2 * v .block2 .columns ≤ 44000 = omega arith in
-      omega (arith, mul-le-mul d q)
+      omega (arith, mul-le-mul d (g .fits .lines))
 
   pub accepted-back : Accepted s
   accepted-back = record {
@@ -427,19 +408,19 @@ module _ (v : Header) (e : Entries) (t : List ℕ) (f : Fit v e) (g : Good v e) 
     block8 = rw ea record {
       least-room = omega (arith, whole);
       number = first s 1051 8 (reads8 .0);
-      size = num-of o (orderOf s) 2 (61 + 10 * a) _ eo (reads8 .1 .0) (omega (arith, g .few8));
+      size = num-of o (orderOf s) 2 (61 + 10 * a) _ eo (reads8 .1 .0) (omega (arith, g .fits .few8));
       room = omega (arith, whole);
     };
     block9 = rw (eb, ea) record {
       least-room = omega (arith, whole);
       number = first s (at9 a) 9 (reads9 .0);
-      size = num-of o (orderOf s) 2 (45 + 10 * b) _ eo (reads9 .1 .0) (omega (arith, g .few9));
+      size = num-of o (orderOf s) 2 (45 + 10 * b) _ eo (reads9 .1 .0) (omega (arith, g .fits .few9));
       room = omega (arith, whole);
     };
     block10 = rw (ec, eb, ea) record {
       least-room = omega (arith, whole);
       number = first s (at10 a b) 10 (reads10 .0);
-      size = num-of o (orderOf s) 4 (47 + 4 * c) _ eo (reads10 .1 .0) (omega (arith, g .few10));
+      size = num-of o (orderOf s) 4 (47 + 4 * c) _ eo (reads10 .1 .0) (omega (arith, g .fits .few10));
       room = omega (arith, whole);
     };
     shape11 = rw (ec, eb, ea) record {
@@ -448,7 +429,7 @@ module _ (v : Header) (e : Entries) (t : List ℕ) (f : Fit v e) (g : Good v e) 
       size = num-of o (orderOf s) 2 259 _ eo (reads11 .1 .0) (omega arith);
     };
     whole = rw (back2, ec, eb, ea) record {
-      header-sum = num-of o (orderOf s) 4 header _ eo (reads1 .1 .1 .1 .1 .1 .1 .1 .1 .1 .1 .1 .1 .0) (omega (arith, g .few8, g .few9, g .few10));
+      header-sum = num-of o (orderOf s) 4 header _ eo (reads1 .1 .1 .1 .1 .1 .1 .1 .1 .1 .1 .1 .1 .0) (omega (arith, g .fits .few8, g .fits .few9, g .fits .few10));
       data-sum = num-of o (orderOf s) 4 counts _ eo (reads1 .1 .1 .1 .1 .1 .1 .1 .1 .1 .1 .1 .1 .1 .0) (few-counts);
       cut = omega (arith, whole);
       tail = omega (arith, whole);

@@ -122,6 +122,31 @@ pub fn put(out: &mut [u8], at: usize, src: &[u8])
     }
 }
 
+// Stores of so many bytes; these are the lengths that more than one crate has.
+pub fn put2(out: &mut [u8], at: usize, b: [u8; 2])
+    ensures { λ _. ⌜ Stored 2 (now (out .entry)) at b (now (out .exit)) ⌝ }
+{
+    put(out, at, &b);
+}
+
+pub fn put4(out: &mut [u8], at: usize, b: [u8; 4])
+    ensures { λ _. ⌜ Stored 4 (now (out .entry)) at b (now (out .exit)) ⌝ }
+{
+    put(out, at, &b);
+}
+
+pub fn put40(out: &mut [u8], at: usize, b: [u8; 40])
+    ensures { λ _. ⌜ Stored 40 (now (out .entry)) at b (now (out .exit)) ⌝ }
+{
+    put(out, at, &b);
+}
+
+pub fn put256(out: &mut [u8], at: usize, b: [u8; 256])
+    ensures { λ _. ⌜ Stored 256 (now (out .entry)) at b (now (out .exit)) ⌝ }
+{
+    put(out, at, &b);
+}
+
 // Stores one byte.
 pub fn put_byte(out: &mut [u8], at: usize, b: u8)
     ensures { λ _. ⌜ Stored 1 (now (out .entry)) at (b ∷ []) (now (out .exit)) ⌝ }

@@ -1,2 +1,4 @@
 -- The laws that the proofs share.
+pub mod Good
+pub mod Storing
 pub mod Written

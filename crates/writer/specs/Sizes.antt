@@ -1,10 +1,10 @@
--- The entries as they are lent, the sizes that the writer's checks leave, and a header's bytes in two parts.
+-- The entries as they are lent, the sizes that the writer's checks leave, and the bytes of the blocks with entries.
 use Prim.Native.Nat.{ℕ, _≤_}
 use mathlib.Core.Path.{_≡_}
 use mathlib.Core.List.{List, [], _∷_}
 use lib.ListN.{length}
 use Rattle.header.specs.declared.Header.{Header}
-use Rattle.header.specs.Encode.{Entries, bytes1, bytes2, carrying, bytes5, bytes7, bytes8, bytes9, bytes10}
+use Rattle.header.specs.Encode.{Entries, carrying, bytes8, bytes9, bytes10}
 
 -- of block 8 lines, column shifts and line shifts, of 9 lines and times, of 10 lines and error pixels
 abbrev pub entriesFrom : List ℕ → List ℕ → List ℕ → List ℕ → List ℕ → List ℕ → List ℕ → Entries
@@ -29,19 +29,6 @@ pub record Fits (v : Header) (e : Entries) : Type 0 where
   pub ts : length (e .times) ≡ length (e .lines9)
   pub few10 : length (e .lines10) ≤ 65535
   pub ps : length (e .pixels) ≡ length (e .lines10)
-
--- blocks 1 to 7; header and counts: their lengths
-unfoldable pub front : Header → ℕ → ℕ → List (List ℕ)
-front v header counts =
-    let o = v .block1 .order in
-    bytes1 (v .block1) header counts
-    ∷ bytes2 o (v .block2)
-    ∷ carrying 3 o 127 (v .carried3)
-    ∷ carrying 4 o 139 (v .carried4)
-    ∷ bytes5 o (v .block5)
-    ∷ carrying 6 o 259 (v .carried6)
-    ∷ bytes7 o (v .block7)
-    ∷ []
 
 -- blocks 8 to 11
 unfoldable pub back : Header → Entries → List (List ℕ)

@@ -1,17 +1,16 @@
 -- `read_shifts`: the verdict, case by case; where there is room, the columns are the file's.
 use mathlib.Core.Path.{_≡_, refl, sym, ap, _∙_}
 use mathlib.Core.List.{List}
-use Prim.Native.Nat.{ℕ}
+use Prim.Native.Nat.{ℕ, _≤_}
 use native.Mathlib.Omega.{arith}
 use lib.ListN.{length}
 use denote.Ref.{now}
-use borrow.Author.Tests.{leb-true}
 use borrow.Author.Needs.{needs}
 use Rattle.rules.specs.Rules.{Row, Ruling, fine, paper}
 use Rattle.header.specs.Places.{aOf}
 use Rattle.header.specs.Entries.{entriesOf}
 use Rattle.reader.specs.Reads.{rooms3, ruled}
-use Rattle.reader.proofs.Filled.{ruling, roomy, kept, column-in}
+use Rattle.reader.proofs.Filled.{ruling, roomy3, kept, column-in}
 use Rattle.reader.proofs.read_shifts.Statement.{statement}
 use Rattle.reader.proofs.read_shifts.Tie as tie
 
@@ -29,34 +28,24 @@ abbrev asked : tie.After-check-rooms3 → Ruling
 asked k = ruled (bytes k) (sizes k (aOf (bytes k)))
 
 told : (k : tie.After-check-rooms3) → paper (k .check-rooms3 .result) ≡ asked k
-told k = ruling (bytes k) (sizes k (aOf (bytes k))) (sizes k (k .before .before .a-of .result)) (k .before .verdict .ensures) (k .check-rooms3 .ensures) (ap (sizes k) (k .before .before .a-of .ensures))
+told k = ruling (bytes k) (sizes k) (k .before .verdict .ensures) (k .check-rooms3 .ensures) (k .before .before .a-of .ensures)
 
 known : (d : tie.After-enum-told) → asked (d .before .before) ≡ fine
 unfolding paper
 known d = sym (told (d .before .before)) ∙ ap paper (d .enum-told .given .1)
 
+-- where nothing is wrong, every slice has room
+room : (d : tie.After-enum-told) → let k = d .before .before in let n = k .before .before .a-of .result in (n ≤ length (now (start k .args .lines))) × (n ≤ length (now (start k .args .column-shifts))) × (n ≤ length (now (start k .args .line-shifts)))
+room d = roomy3 _ (known d) (d .before .before .before .before .a-of .ensures)
+
 room16 : tie.Need-read-u16s-requires
-unfolding rooms3
-room16 c κs =
-    let k = c .before .before .before in
-    let h = roomy (bytes k) (sizes k (aOf (bytes k))) (known (c .before)) in
-    (rw (k .before .before .a-of .ensures) (leb-true _ _ (h .0)), omega arith, omega arith, omega arith)
+room16 c κs = (room (c .before) .0, omega arith, omega arith, omega arith)
 
 room32 : tie.Need-read-u32s-requires
-unfolding rooms3
-room32 c κs =
-    let d = c .before .before .before .before .before in
-    let k = d .before .before in
-    let h = roomy (bytes k) (sizes k (aOf (bytes k))) (known d) in
-    (rw (k .before .before .a-of .ensures) (leb-true _ _ (h .1 .0)), omega arith, omega arith, omega arith)
+room32 c κs = (room (c .before .before .before .before .before) .1, omega arith, omega arith, omega arith)
 
 room32-2 : tie.Need-read-u32s-requires-2
-unfolding rooms3
-room32-2 c κs =
-    let d = c .before .before .before .before .before .before .before .before .before in
-    let k = d .before .before in
-    let h = roomy (bytes k) (sizes k (aOf (bytes k))) (known d) in
-    (rw (k .before .before .a-of .ensures) (leb-true _ _ (h .1 .1 .0)), omega arith, omega arith, omega arith)
+room32-2 c κs = (room (c .before .before .before .before .before .before .before .before .before) .2, omega arith, omega arith, omega arith)
 
 returns : tie.Need-returns
 unfolding paper

@@ -1,50 +1,26 @@
 -- `read_u32s`: a loop that reads one number more.
-use mathlib.Core.Path.{_≡_, refl, _∙_}
-use mathlib.Core.List.{_++_}
-use Prim.Native.Nat.{ℕ, _+_, _*_, _≤_, _<_, _-_}
+use Prim.Native.Nat.{_*_, _<_, _-_}
 use native.Mathlib.Omega.{arith}
 use borrow.Author.Needs.{needs}
-use lib.ListN.{length, drop, length-set}
-use denote.Ref.{now}
-use Rattle.wire.specs.Wire.{span, num, tab}
-use Rattle.wire.proofs.Rows.{tab-turn}
-use Rattle.header.specs.Entries.{column}
-use Rattle.reader.proofs.Near.{near}
+use Rattle.reader.proofs.Columns.{Filling, begins, turns, ends, near}
 use Rattle.reader.proofs.read_u32s.Statement.{statement}
 use Rattle.reader.proofs.read_u32s.Tie as tie
 
 abbrev Inv-loop : tie.InvT-loop
-Inv-loop dst₀ n s at stride order i₀ dst i =
-    (i ≤ n) × (length dst ≡ length dst₀) × (dst ≡ tab (λ (k : ℕ). num order (span s (at + stride * k) 4)) i ++ drop i dst₀)
+Inv-loop dst₀ n s at stride order i₀ dst i = Filling dst₀ n s at stride order 4 dst i
 
 abbrev μ-loop : tie.MeasureT-loop
 μ-loop dst₀ n s at stride order i₀ dst i = n - i
-
-loop-holds : tie.Need-loop-holds Inv-loop μ-loop
-unfolding tab
-loop-holds c = (search needs, refl, refl)
 
 -- the place that is read does not overflow
 small : (c : tie.In-loop Inv-loop μ-loop) → c .before .before .before .before .args .stride * c .before .loop .i < 16777216
 small c = near _ (c .before .loop .i) (c .before .before .before .before .pre .3) (omega arith)
 
 loop-again : tie.Need-loop-again Inv-loop μ-loop
-loop-again c =
-    let l = c .before .before .loop in
-    let a = c .before .before .before .before .before .args in
-    let h : l .i < length (now (a .dst)) = omega arith in (
-      omega arith,
-      simp length-set (omega arith),
-      tab-turn (λ (k : ℕ). num (a .order) (span (now (a .s)) (a .at + a .stride * k) 4)) (now (a .dst)) (l .inv .2) (c .u32-at .ensures) h,
-    )
+loop-again c = turns _ _ _ _ _ _ 4 (c .before .before .loop .inv) (omega arith) (omega arith) (c .u32-at .ensures)
 
 returns : tie.Need-returns Inv-loop μ-loop
-unfolding column
-returns c =
-    let l = c .before .loop in
-    let a = c .before .before .before .before .args in
-    let e : l .i ≡ a .n = omega arith in
-    l .inv .2 ∙ rw e
+returns c = ends _ _ _ _ _ _ 4 (c .before .loop .inv) (omega arith)
 
 pub read-u32s-spec : {M : Type 1} → statement M
 read-u32s-spec =
@@ -52,7 +28,7 @@ read-u32s-spec =
     (tie.spec
     Inv-loop
     μ-loop
-    loop-holds
+    (λ c. begins _ _ _ _ _ _ 4)
     (λ c. omega (arith, small c))
     (λ c. omega (arith, small c))
     (λ c κs. search needs)

@@ -1,7 +1,8 @@
 -- `write`: a refusal leaves all as it was; what fits is stored.
 use mathlib.Core.Path.{sym, ap, _∙_}
 use Rattle.rules.specs.Rules.{paper}
-use Rattle.writer.proofs.Written.{fits, wrote-fine, wrote-not}
+use Rattle.writer.proofs.Good.{good-is}
+use Rattle.writer.proofs.Written.{wrote-fine, wrote-not}
 use borrow.Author.Needs.{needs}
 use Rattle.writer.proofs.write.Statement.{statement}
 use Rattle.writer.proofs.write.Tie as tie
@@ -10,7 +11,7 @@ write-all-requires : tie.Need-write-all-requires
 unfolding paper
 write-all-requires c κs =
     let d = c .before in
-    fits _ _ _ (sym (d .before .before .check-given .ensures) ∙ ap paper (d .enum-told .given .1))
+    good-is _ _ _ (sym (d .before .before .check-given .ensures) ∙ ap paper (d .enum-told .given .1)) .0 .fits
 
 returns : tie.Need-returns
 returns c = wrote-not (c .before .before .before .check-given .ensures) (c .before .v .given .1)

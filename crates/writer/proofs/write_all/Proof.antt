@@ -3,7 +3,8 @@ use Prim.Native.Nat.{_*_, _≤_}
 use native.Mathlib.Nat.{mul-le-mul}
 use native.Mathlib.Omega.{arith}
 use Rattle.header.specs.Encode.{encode}
-use Rattle.writer.specs.Sizes.{front, back}
+use Rattle.blocks.specs.Front.{front}
+use Rattle.writer.specs.Sizes.{back}
 use Rattle.writer.proofs.Written.{both}
 use borrow.Author.Needs.{needs}
 use Rattle.writer.proofs.write_all.Statement.{statement}

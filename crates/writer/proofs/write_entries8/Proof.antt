@@ -1,42 +1,24 @@
 -- `write_entries8`: a loop that stores one entry more.
-use mathlib.Core.Path.{_≡_, refl}
-use Prim.Native.Nat.{_+_, _*_, _-_, _≤_}
+use Prim.Native.Nat.{_-_}
 use native.Mathlib.Omega.{arith}
-use borrow.Author.Needs.{needs}
 use lib.ListN.{length}
-use denote.Ref.{now}
-use Rattle.wire.specs.Wire.{store, rows, Stored}
-use Rattle.wire.proofs.Rows.{rows-turn}
 use Rattle.header.specs.Encode.{entry8}
+use Rattle.writer.proofs.Storing.{Storing, begins, turns, ends}
 use Rattle.writer.proofs.write_entries8.Statement.{statement}
 use Rattle.writer.proofs.write_entries8.Tie as tie
 
 abbrev Inv-loop : tie.InvT-loop
-Inv-loop out₀ at order ls xs ys i₀ out i = (i ≤ length ls) × (length out ≡ length out₀) × Stored (10 * i) out₀ at (rows (entry8 order ls xs ys) i) out
+Inv-loop out₀ at order ls xs ys i₀ out i = Storing out₀ (length ls) at (entry8 order ls xs ys) 10 out i
 
 abbrev μ-loop : tie.MeasureT-loop
 μ-loop out₀ at order ls xs ys i₀ out i = length ls - i
 
-loop-holds : tie.Need-loop-holds Inv-loop μ-loop
-unfolding store rows
-loop-holds c = (search needs, refl, record { long = refl; is = refl })
-
 loop-again : tie.Need-loop-again Inv-loop μ-loop
 unfolding entry8
-loop-again c =
-    let l = c .before .before .before .before .before .before .before .before .loop in
-    let a = c .before .before .before .before .before .before .before .before .before .before .before .before .before .args in (
-      omega arith,
-      omega arith,
-      rows-turn (entry8 (a .order) (now (a .ls)) (now (a .xs)) (now (a .ys))) (l .i) (10 * (l .i + 1)) (l .inv .2) (c .before .before .write-entry8 .ensures) (omega arith),
-    )
+loop-again c = turns _ _ _ _ 10 (c .before .before .before .before .before .before .before .before .loop .inv) (omega arith) (c .before .before .write-entry8 .ensures)
 
 returns : tie.Need-returns Inv-loop μ-loop
-returns c =
-    let l = c .before .loop in
-    let a = c .before .before .before .before .before .before .args in
-    let e : l .i ≡ length (now (a .ls)) = omega arith in
-    rw e at (l .inv .2)
+returns c = ends _ _ _ _ 10 (c .before .loop .inv) (omega arith)
 
 pub write-entries8-spec : {M : Type 1} → statement M
 write-entries8-spec =
@@ -44,7 +26,7 @@ write-entries8-spec =
     (tie.spec
     Inv-loop
     μ-loop
-    loop-holds
+    (λ c. begins _ _ _ _ 10)
     (λ c. omega arith)
     (λ c. omega arith)
     (λ c. omega arith)

@@ -1,42 +1,24 @@
 -- `write_entries9`: a loop that stores one entry more.
-use mathlib.Core.Path.{_≡_, refl}
-use Prim.Native.Nat.{_+_, _*_, _-_, _≤_}
+use Prim.Native.Nat.{_-_}
 use native.Mathlib.Omega.{arith}
-use borrow.Author.Needs.{needs}
 use lib.ListN.{length}
-use denote.Ref.{now}
-use Rattle.wire.specs.Wire.{store, rows, Stored}
-use Rattle.wire.proofs.Rows.{rows-turn}
 use Rattle.header.specs.Encode.{entry9}
+use Rattle.writer.proofs.Storing.{Storing, begins, turns, ends}
 use Rattle.writer.proofs.write_entries9.Statement.{statement}
 use Rattle.writer.proofs.write_entries9.Tie as tie
 
 abbrev Inv-loop : tie.InvT-loop
-Inv-loop out₀ at order ls ts i₀ out i = (i ≤ length ls) × (length out ≡ length out₀) × Stored (10 * i) out₀ at (rows (entry9 order ls ts) i) out
+Inv-loop out₀ at order ls ts i₀ out i = Storing out₀ (length ls) at (entry9 order ls ts) 10 out i
 
 abbrev μ-loop : tie.MeasureT-loop
 μ-loop out₀ at order ls ts i₀ out i = length ls - i
 
-loop-holds : tie.Need-loop-holds Inv-loop μ-loop
-unfolding store rows
-loop-holds c = (search needs, refl, record { long = refl; is = refl })
-
 loop-again : tie.Need-loop-again Inv-loop μ-loop
 unfolding entry9
-loop-again c =
-    let l = c .before .before .before .before .before .before .before .loop in
-    let a = c .before .before .before .before .before .before .before .before .before .before .before .args in (
-      omega arith,
-      omega arith,
-      rows-turn (entry9 (a .order) (now (a .ls)) (now (a .ts))) (l .i) (10 * (l .i + 1)) (l .inv .2) (c .before .before .write-entry9 .ensures) (omega arith),
-    )
+loop-again c = turns _ _ _ _ 10 (c .before .before .before .before .before .before .before .loop .inv) (omega arith) (c .before .before .write-entry9 .ensures)
 
 returns : tie.Need-returns Inv-loop μ-loop
-returns c =
-    let l = c .before .loop in
-    let a = c .before .before .before .before .before .args in
-    let e : l .i ≡ length (now (a .ls)) = omega arith in
-    rw e at (l .inv .2)
+returns c = ends _ _ _ _ 10 (c .before .loop .inv) (omega arith)
 
 pub write-entries9-spec : {M : Type 1} → statement M
 write-entries9-spec =
@@ -44,7 +26,7 @@ write-entries9-spec =
     (tie.spec
     Inv-loop
     μ-loop
-    loop-holds
+    (λ c. begins _ _ _ _ 10)
     (λ c. omega arith)
     (λ c. omega arith)
     (λ c. omega arith)

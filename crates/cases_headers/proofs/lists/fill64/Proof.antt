@@ -7,10 +7,10 @@ use Rattle.cases_headers.proofs.lists.fill64.Statement.{statement}
 use Rattle.cases_headers.proofs.lists.fill64.Tie as tie
 
 abbrev Inv-loop : tie.InvT-loop
-Inv-loop dst₀ n seed i₀ dst i = (i ≤ n) × (n ≤ length dst₀) × (length dst ≡ length dst₀)
+Inv-loop dst₀ i₀ i-end dst i = (i ≤ i-end) × (i-end ≡ length dst₀) × (length dst ≡ length dst₀)
 
 abbrev μ-loop : tie.MeasureT-loop
-μ-loop dst₀ n seed i₀ dst i = n - i
+μ-loop dst₀ i₀ i-end dst i = i-end - i
 
 pub fill64-spec : {M : Type 1} → statement M
 fill64-spec =
@@ -18,7 +18,6 @@ fill64-spec =
     (tie.spec
     Inv-loop
     μ-loop
-    (λ c. search needs)
     (λ c. search needs)
     (λ c. search needs)
     (λ c. search needs)

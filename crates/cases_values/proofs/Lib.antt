@@ -1,2 +1,0 @@
--- The laws of the proofs of `cases_values`.
-pub mod Signed

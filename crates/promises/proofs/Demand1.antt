@@ -1,0 +1,204 @@
+-- Demand 1: a refusal carries a number of the paper's table with a block that the table has for it, and every lent byte, count, mark and
+-- number stays as it was. Each theorem is of a function's own answers: `Post` is its contract as the source has it.
+-- That every input has one answer is the contracts' having no `requires`, and OneAnswer.
+-- Assumes nothing.
+use mathlib.Core.Path.{_≡_, refl, sym, _∙_}
+use mathlib.Core.Bool.{Bool, true, false, cond}
+use mathlib.Core.List.{List, [], _∷_}
+use Prim.Native.Nat.{ℕ, _≤_}
+use native.Mathlib.Omega.{arith}
+use lib.ListN.{length}
+use denote.Ref.{now}
+use Rattle.rules.specs.Rules.{Turned, turned, Row, says, refused, refuses, tables, paper}
+use Rattle.calendar.specs.Dates.{real, dayAt, paperDay, dayOf}
+use Rattle.calendar.specs.Shots.{shot, paperSlot, slotOf, shots, paperFrame, frameOf}
+use Rattle.header.specs.Places.{aOf, bOf, cOf}
+use Rattle.accept.specs.Checks.{shape, entries, shape1, fields1, fixed2, fields2, fixed5, fields5, fields7, sums, names, ends, blocks1to4, blocks5to7, blocks8to11, whole, checks}
+use Rattle.accept.specs.Answers.{factsOf, paperAnswer, answerOf}
+use Rattle.slate.specs.Slates.{slated, paperSlate, slateOf}
+use Rattle.frame.specs.Frames.{opening, openFrame, ready, placing, offering, recordAfter, frameAfter}
+use Rattle.frame.specs.Lines.{shown}
+use Rattle.frame.proofs.Asking.{line-length, line-some}
+use Rattle.frame.proofs.line_of.Reads as line-of
+use Rattle.writer.specs.Given.{orders, lengths8, lengths9, lengths10, room, given}
+use Rattle.reader.specs.Reads.{rooms2, rooms3, filled}
+use Rattle.plugin.specs.Strips.{slateIn, shownRuling, lent, marksIn, openedC, offeredC, openMarks, openStrip, offerMarks, offerStrip, lineC}
+use Rattle.calendar.proofs.day_of.Reads as day-of
+use Rattle.calendar.proofs.slot.Reads as slot
+use Rattle.calendar.proofs.frame_number.Reads as frame-number
+use Rattle.accept.proofs.verdict.Reads as verdict
+use Rattle.accept.proofs.accept.Reads as accept
+use Rattle.slate.proofs.Slate.new.Reads as new
+use Rattle.frame.proofs.open.Reads as opens
+use Rattle.frame.proofs.offer.Reads as offer
+use Rattle.writer.proofs.write.Reads as write
+use Rattle.reader.proofs.read.Reads as read
+use Rattle.reader.proofs.read_shifts.Reads as read-shifts
+use Rattle.reader.proofs.read_times.Reads as read-times
+use Rattle.reader.proofs.read_errors.Reads as read-errors
+use Rattle.plugin.proofs.hsd_accept.Reads as hsd-accept
+use Rattle.plugin.proofs.hsd_frame_number.Reads as hsd-frame-number
+use Rattle.plugin.proofs.strips.hsd_open.Reads as hsd-open
+use Rattle.plugin.proofs.strips.hsd_offer.Reads as hsd-offer
+use Rattle.plugin.proofs.strips.hsd_line.Reads as hsd-line
+use Rattle.promises.specs.Blocks.{allowed, allowedC, inTable}
+use Rattle.promises.proofs.Refusals.{refused-in, refuses-in, left, in-append, shown-allowed, shown-left, none-left, file-allowed, number-allowed}
+
+-- ---- every table is the paper's
+
+in-checks : (s : List ℕ) → inTable (checks s) ≡ true
+unfolding inTable allowed tables shape entries shape1 fields1 fixed2 fields2 fixed5 fields5 fields7 sums names ends blocks1to4 blocks5to7 blocks8to11 whole checks
+in-checks s = refl
+
+in-opening : (s : _) (size : ℕ) → inTable (opening s size) ≡ true
+unfolding inTable allowed opening
+in-opening s size = refl
+
+in-offering : (s : _) (marks : _) (size : ℕ) (f : List ℕ) → inTable (offering s marks size f) ≡ true
+unfolding inTable allowed tables ready placing offering
+in-offering s marks size f = in-append (checks f) _ (in-checks f) refl
+
+in-given : (v : _) (e : _) (n : ℕ) → inTable (given v e n) ≡ true
+unfolding inTable allowed tables orders fields1 fields2 fields5 fields7 lengths8 lengths9 lengths10 names room given
+in-given v e n = refl
+
+in-rooms : (s : List ℕ) (rs : List Row) → inTable rs ≡ true → inTable (tables (checks s ∷ rs ∷ [])) ≡ true
+unfolding tables inTable
+in-rooms s rs h = in-append (checks s) _ (in-checks s) (in-append rs [] h refl)
+
+-- ---- files
+
+pub of-verdict : (κ : _) (a : _) (r : _) (t : _) → verdict.Post κ a r t → (u : Turned) → paper r ≡ refused u → allowed u ≡ true
+of-verdict κ a r t p u e = refused-in (checks (now (a .0))) (in-checks (now (a .0))) u (sym p ∙ e)
+
+pub of-accept : (κ : _) (a : _) (r : _) (t : _) → accept.Post κ a r t → (u : Turned) → paperAnswer r ≡ refuses u → allowed u ≡ true
+unfolding answerOf
+of-accept κ a r t p u e = refuses-in (checks (now (a .0))) (in-checks (now (a .0))) (factsOf (now (a .0))) u (sym p ∙ e)
+
+-- ---- values
+
+pub of-day : (κ : _) (a : _) (r : _) (t : _) → day-of.Post κ a r t → (u : Turned) → paperDay r ≡ refuses u → allowed u ≡ true
+unfolding dayOf allowed
+of-day κ a r t p u e = told (real (a .0) (a .1 .0) (a .1 .1 .0)) (dayAt (a .0) (a .1 .0) (a .1 .1 .0)) (sym p ∙ e)
+  where
+    told : (b : Bool) (n : ℕ) → cond b (says n) (refuses (turned 10 1)) ≡ refuses u → allowed u ≡ true
+    told true n e = absurd (let z : _≡_ {A = ℕ} 0 1 = cc in omega arith)
+    told false n e = let q : turned 10 1 ≡ u = cc in rw (← q)
+
+pub of-slot : (κ : _) (a : _) (r : _) (t : _) → slot.Post κ a r t → (u : Turned) → paperSlot r ≡ refuses u → allowed u ≡ true
+unfolding slotOf shot inTable allowed
+of-slot κ a r t p u e = refuses-in (shot (a .0) (a .1 .0)) refl _ u (sym p ∙ e)
+
+pub of-frame-number : (κ : _) (a : _) (r : _) (t : _) → frame-number.Post κ a r t → (u : Turned) → paperFrame r ≡ refuses u → allowed u ≡ true
+unfolding frameOf shots inTable allowed
+of-frame-number κ a r t p u e = refuses-in (shots (a .0) (a .1 .0) (a .1 .1 .0) (a .1 .1 .1 .0)) refl _ u (sym p ∙ e)
+
+pub of-slate : (κ : _) (a : _) (r : _) (t : _) → new.Post κ a r t → (u : Turned) → paperSlate r ≡ refuses u → allowed u ≡ true
+unfolding slateOf slated inTable allowed
+of-slate κ a r t p u e = refuses-in (slated _) refl _ u (sym p ∙ e)
+
+-- ---- frames: the lent frame and the record
+
+pub of-open : (κ : _) (a : _) (r : _) (t : _) → opens.Post κ a r t → (u : Turned) → paper (r .verdict) ≡ refused u
+    → (allowed u ≡ true) × (now (t .1 .0) ≡ now (a .1 .0))
+unfolding openFrame
+of-open κ a r t p u e =
+    let q = sym (p .0) ∙ e in
+    (refused-in (opening (a .0) (length (now (a .1 .0)))) (in-opening _ _) u q, p .1 .1 ∙ left _ u _ _ q)
+
+pub of-offer : (κ : _) (a : _) (r : _) (t : _) → offer.Post κ a r t → (u : Turned) → paper (r .verdict) ≡ refused u
+    → (allowed u ≡ true) × ((r .rec .marks ≡ a .1 .0 .marks) × (now (t .1 .1 .0) ≡ now (a .1 .1 .0)))
+unfolding recordAfter frameAfter
+of-offer κ a r t p u e =
+    let q = sym (p .0) ∙ e in
+    (refused-in (offering (a .0) (a .1 .0 .marks) (length (now (a .1 .1 .0))) (now (a .1 .1 .1 .0))) (in-offering _ _ _ _) u q, (p .1 .0 ∙ left _ u _ _ q, p .1 .1 ∙ left _ u _ _ q))
+
+-- a line's refusal is an empty part: one that can be shown has all its columns, which are never none, and any other is empty
+module _ (κ : _) (a : _) (r : _) (t : _) (p : line-of.Post κ a r t) where
+  abbrev seen : Bool
+  seen = shown (a .0) (a .1 .0 .marks) (now (a .1 .1 .0)) (now (a .1 .1 .1 .0)) (a .1 .1 .1 .1 .0 .0)
+
+  pub of-line : length (now r) ≡ cond seen (a .0 .columns) 0
+  of-line = rw p (line-length (a .0) (a .1 .0 .marks) (now (a .1 .1 .0)) (now (a .1 .1 .1 .0)) (a .1 .1 .1 .1 .0 .0))
+
+  pub never-empty : seen ≡ true → 1 ≤ length (now r)
+  never-empty e = rw p (line-some (a .0) (a .1 .0 .marks) (now (a .1 .1 .0)) (now (a .1 .1 .1 .0)) (a .1 .1 .1 .1 .0 .0) e)
+
+-- ---- the writer's output, and the slices that the reader fills
+
+pub of-write : (κ : _) (a : _) (r : _) (t : _) → write.Post κ a r t → (u : Turned) → paper r ≡ refused u
+    → (allowed u ≡ true) × (now (t .0) ≡ now (a .0))
+of-write κ a r t p u e =
+    let q = sym (p .says) ∙ e in
+    (refused-in (given _ _ _) (in-given _ _ _) u q, p .leaves ∙ left _ u _ _ q)
+
+pub of-read : (κ : _) (a : _) (r : _) (t : _) → read.Post κ a r t → (u : Turned) → paper (r .verdict) ≡ refused u → allowed u ≡ true
+of-read κ a r t p u e = refused-in (checks (now (a .0))) (in-checks (now (a .0))) u (sym (p .says) ∙ e)
+
+pub of-shifts : (κ : _) (a : _) (r : _) (t : _) → read-shifts.Post κ a r t → (u : Turned) → paper r ≡ refused u
+    → (allowed u ≡ true) × ((now (t .1 .0) ≡ now (a .1 .0)) × ((now (t .1 .1 .0) ≡ now (a .1 .1 .0)) × (now (t .1 .1 .1 .0) ≡ now (a .1 .1 .1 .0))))
+unfolding filled rooms3 inTable allowed
+of-shifts κ a r t p u e =
+    let q = sym (p .says) ∙ e in
+    let s = now (a .0) in
+    let rooms = (rooms3 (aOf (now (a .0))) (length (now (a .1 .0))) (length (now (a .1 .1 .0))) (length (now (a .1 .1 .1 .0)))) in
+    (refused-in (tables (checks s ∷ rooms ∷ [])) (in-rooms s rooms refl) u q, (p .lines ∙ left _ u _ _ q, (p .columnShifts ∙ left _ u _ _ q, p .lineShifts ∙ left _ u _ _ q)))
+
+pub of-times : (κ : _) (a : _) (r : _) (t : _) → read-times.Post κ a r t → (u : Turned) → paper r ≡ refused u
+    → (allowed u ≡ true) × ((now (t .1 .0) ≡ now (a .1 .0)) × (now (t .1 .1 .0) ≡ now (a .1 .1 .0)))
+unfolding filled rooms2 inTable allowed
+of-times κ a r t p u e =
+    let q = sym (p .says) ∙ e in
+    let s = now (a .0) in
+    let rooms = (rooms2 (bOf (now (a .0))) (length (now (a .1 .0))) (length (now (a .1 .1 .0)))) in
+    (refused-in (tables (checks s ∷ rooms ∷ [])) (in-rooms s rooms refl) u q, (p .lines ∙ left _ u _ _ q, p .times ∙ left _ u _ _ q))
+
+pub of-errors : (κ : _) (a : _) (r : _) (t : _) → read-errors.Post κ a r t → (u : Turned) → paper r ≡ refused u
+    → (allowed u ≡ true) × ((now (t .1 .0) ≡ now (a .1 .0)) × (now (t .1 .1 .0) ≡ now (a .1 .1 .0)))
+unfolding filled rooms2 inTable allowed
+of-errors κ a r t p u e =
+    let q = sym (p .says) ∙ e in
+    let s = now (a .0) in
+    let rooms = (rooms2 (cOf (now (a .0))) (length (now (a .1 .0))) (length (now (a .1 .1 .0)))) in
+    (refused-in (tables (checks s ∷ rooms ∷ [])) (in-rooms s rooms refl) u q, (p .lines ∙ left _ u _ _ q, p .pixels ∙ left _ u _ _ q))
+
+-- ---- from C: marks, frame and output
+
+in-lent : (m : List ℕ) (rs : List Row) → inTable rs ≡ true → inTable (tables (lent m ∷ rs ∷ [])) ≡ true
+unfolding lent tables inTable allowed
+in-lent m rs h = in-append rs [] h refl
+
+pub of-hsd-accept : (κ : _) (a : _) (r : _) (t : _) → hsd-accept.Post κ a r t → allowedC (r .refusal) (r .block) ≡ true
+unfolding answerOf
+of-hsd-accept κ a r t p = rw p (file-allowed (checks (now (a .0))) (in-checks (now (a .0))) _ (factsOf (now (a .0))) refl)
+
+pub of-hsd-frame-number : (κ : _) (a : _) (r : _) (t : _) → hsd-frame-number.Post κ a r t → allowedC (r .refusal) (r .block) ≡ true
+unfolding frameOf shots inTable allowed
+of-hsd-frame-number κ a r t p = rw p (number-allowed (shots (a .0) (a .1 .0) (a .1 .1 .0) (a .1 .1 .1 .0)) refl _ _ refl)
+
+pub of-hsd-open : (κ : _) (a : _) (r : _) (t : _) → hsd-open.Post κ a r t
+    → (allowedC (r .refusal) (r .block) ≡ true) × ((r .refusal ≡ 0 → ⊥) → (now (t .1 .0) ≡ now (a .1 .0)) × (now (t .1 .1 .0) ≡ now (a .1 .1 .0)))
+unfolding openMarks openStrip
+of-hsd-open κ a r t p =
+    let m = now (a .1 .0) in
+    let size = length (now (a .1 .1 .0)) in
+    let v = openedC (a .0) m size in (
+      rw (p .0) (shown-allowed (tables (lent m ∷ opening (slateIn (a .0)) size ∷ [])) (in-lent m _ (in-opening _ _)) v refl),
+      λ h. let n : shownRuling v .refusal ≡ 0 → ⊥ = λ z. h (rw (p .0) z) in (p .1 .0 ∙ shown-left v _ _ n, p .1 .1 ∙ shown-left v _ _ n),
+    )
+
+pub of-hsd-offer : (κ : _) (a : _) (r : _) (t : _) → hsd-offer.Post κ a r t
+    → (allowedC (r .refusal) (r .block) ≡ true) × ((r .refusal ≡ 0 → ⊥) → (now (t .1 .0) ≡ now (a .1 .0)) × (now (t .1 .1 .0) ≡ now (a .1 .1 .0)))
+unfolding offerMarks offerStrip
+of-hsd-offer κ a r t p =
+    let m = now (a .1 .0) in
+    let size = length (now (a .1 .1 .0)) in
+    let f = now (a .1 .1 .1 .0) in
+    let v = offeredC (a .0) m size f in (
+      rw (p .0) (shown-allowed (tables (lent m ∷ offering (slateIn (a .0)) (marksIn m) size f ∷ [])) (in-lent m _ (in-offering _ _ _ _)) v refl),
+      λ h. let n : shownRuling v .refusal ≡ 0 → ⊥ = λ z. h (rw (p .0) z) in (p .1 .0 ∙ shown-left v _ _ n, p .1 .1 ∙ shown-left v _ _ n),
+    )
+
+-- a line that is refused, the one refusal without a number, is no count
+pub of-hsd-line : (κ : _) (a : _) (r : _) (t : _) → hsd-line.Post κ a r t → r ≡ 0 → now (t .1 .1 .1 .1 .1 .0) ≡ now (a .1 .1 .1 .1 .1 .0)
+of-hsd-line κ a r t p e = p .1 ∙ none-left (lineC (a .0) (now (a .1 .0)) (now (a .1 .1 .0)) (now (a .1 .1 .1 .0)) (a .1 .1 .1 .1 .0)) (now (a .1 .1 .1 .1 .1 .0)) (sym (p .0) ∙ e)

@@ -1,0 +1,79 @@
+-- Laws of refusals: they are the paper's table's, and what is lent stays as it was.
+-- Assumes nothing.
+use mathlib.Core.Path.{_≡_, refl, sym, _∙_}
+use mathlib.Core.Bool.{Bool, true, false, cond, and-eq-true-iff, or-true}
+use mathlib.Core.List.{List, [], _∷_, _++_}
+use Prim.Native.Nat.{ℕ}
+use native.Mathlib.Omega.{arith}
+use Rattle.rules.specs.Rules.{Turned, turned, Row, test, Ruling, fine, refused, judge, checked, after, refuses, reply}
+use Rattle.rules.proofs.Judge.{judge-refused, turned-away}
+use lib.Dec.{eqb, leb}
+use lib.ListN.{length, drop}
+use lib.IntN.{ℤ}
+use Rattle.accept.specs.declared.Facts.{Facts}
+use Rattle.plugin.specs.Plugin.{shownFile, shownFrame}
+use Rattle.plugin.specs.Strips.{shownRuling, copiedOf, copyOf}
+use Rattle.promises.specs.Blocks.{allowed, allowedC, inTable}
+
+same-turned : (t u : Turned) → refused t ≡ refused u → t ≡ u
+same-turned t u e = cc
+
+-- what a table refuses is one of its rows' refusals
+pub refused-in : (rs : List Row) → inTable rs ≡ true → (t : Turned) → judge fine rs ≡ refused t → allowed t ≡ true
+unfolding inTable checked
+refused-in [] h t e = absurd (let z : _≡_ {A = ℕ} 0 1 = cc in omega arith)
+refused-in (test true u ∷ rs) h t e = refused-in rs (and-eq-true-iff (allowed u) (inTable rs) .0 h .1) t e
+refused-in (test false u ∷ rs) h t e =
+    let q : u ≡ t = same-turned u t (sym (judge-refused u rs) ∙ e) in
+    rw (← q) (and-eq-true-iff (allowed u) (inTable rs) .0 h .0)
+
+-- the same of an answer that carries a value
+pub refuses-in : {A : Type 0} (rs : List Row) → inTable rs ≡ true → (x : A) (t : Turned) → reply (judge fine rs) x ≡ refuses t → allowed t ≡ true
+refuses-in rs h x t e = refused-in rs h t (turned-away (judge fine rs) x t e)
+
+pub in-append : (xs ys : List Row) → inTable xs ≡ true → inTable ys ≡ true → inTable (xs ++ ys) ≡ true
+unfolding inTable
+in-append [] ys h k = k
+in-append (test ok t ∷ xs) ys h k =
+    let e = and-eq-true-iff (allowed t) (inTable xs) .0 h in
+    rw (e .0) (in-append xs ys (e .1) k)
+
+-- what a refusal leaves
+pub left : {A : Type 0} (r : Ruling) (t : Turned) (old new : A) → r ≡ refused t → after r old new ≡ old
+unfolding after
+left r t old new e = rw e
+
+-- ---- in C's numbers
+
+pub shown-allowed : (rs : List Row) → inTable rs ≡ true → (v : Ruling) → v ≡ judge fine rs → allowedC (shownRuling v .refusal) (shownRuling v .block) ≡ true
+unfolding shownRuling
+shown-allowed rs h fine e = refl
+shown-allowed rs h (refused (turned n b)) e = rw (refused-in rs h (turned n b) (sym e)) (or-true (eqb n 0))
+
+pub shown-left : {A : Type 0} (v : Ruling) (old new : A) → (shownRuling v .refusal ≡ 0 → ⊥) → after v old new ≡ old
+unfolding shownRuling after
+shown-left fine old new h = absurd (h refl)
+shown-left (refused t) old new h = refl
+
+-- where no count is copied, none is changed
+pub none-left : (line out : List ℕ) → copiedOf line out ≡ 0 → copyOf line out ≡ out
+none-left [] out e = go (leb 0 (length out))
+  where
+    go : (b : Bool) → cond b ([] ++ drop 0 out) out ≡ out
+    go true = refl
+    go false = refl
+none-left (x ∷ line) out e = go (leb (length (x ∷ line)) (length out)) e
+  where
+    go : (b : Bool) → cond b (length (x ∷ line)) 0 ≡ 0 → cond b ((x ∷ line) ++ drop (length (x ∷ line)) out) out ≡ out
+    go true h = absurd (omega arith)
+    go false h = refl
+
+pub file-allowed : (rs : List Row) → inTable rs ≡ true → (v : Ruling) (x : Facts) → v ≡ judge fine rs → allowedC (shownFile (reply v x) .refusal) (shownFile (reply v x) .block) ≡ true
+unfolding shownFile reply
+file-allowed rs h fine x e = refl
+file-allowed rs h (refused (turned n b)) x e = rw (refused-in rs h (turned n b) (sym e)) (or-true (eqb n 0))
+
+pub number-allowed : (rs : List Row) → inTable rs ≡ true → (v : Ruling) (x : ℤ) → v ≡ judge fine rs → allowedC (shownFrame (reply v x) .refusal) (shownFrame (reply v x) .block) ≡ true
+unfolding shownFrame reply
+number-allowed rs h fine x e = refl
+number-allowed rs h (refused (turned n b)) x e = rw (refused-in rs h (turned n b) (sym e)) (or-true (eqb n 0))
