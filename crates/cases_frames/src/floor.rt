@@ -2,7 +2,6 @@
 use crate::file;
 use crate::plan;
 use crate::strip;
-use crate::text;
 use frame::Held;
 use frame::Record;
 use slate::Line;
@@ -12,7 +11,7 @@ use slate::Slated;
 const LEADER: [u16; 5] = [901, 902, 903, 904, 905];
 
 // Opens the frame, or offers it a file, with as much of the strip as is lent.
-pub(crate) fn held(
+pub(crate) fn open_or_offer(
     deed: usize,
     slate: Slate,
     rec: Record,
@@ -33,35 +32,41 @@ pub(crate) fn held(
 }
 
 pub(crate) fn tally(rec: Record) {
-    text::number(frame::tally(rec) as u64);
-    text::word(b" in");
+    say::number(frame::tally(rec) as u64);
+    say::word(b" in");
 }
 
-// Opens or offers, and tells the answer, and whether record and strip are as they were.
-fn hand(deed: usize, slate: Slate, rec: Record, strip: &mut [u16; 128], p: [usize; 19]) -> Record {
+// Does so, and tells the answer, and whether record and strip are as they were.
+fn handle(
+    deed: usize,
+    slate: Slate,
+    rec: Record,
+    strip: &mut [u16; 128],
+    p: [usize; 19],
+) -> Record {
     let before = *strip;
-    let held = held(deed, slate, rec, strip, p);
+    let held = open_or_offer(deed, slate, rec, strip, p);
     let v = held.verdict;
     let next = held.rec;
     if deed == plan::OPEN {
-        text::word(b"opened: ");
+        say::word(b"opened: ");
     } else {
-        text::word(b"offered: ");
+        say::word(b"offered: ");
     }
-    text::verdict(v);
-    text::word(b", ");
+    say::verdict(v, b"OK");
+    say::word(b", ");
     tally(next);
     if strip::same(&before, strip) & strip::same_marks(rec, next) {
-        text::word(b", kept");
+        say::word(b", kept");
     }
-    text::word(b"\n");
+    say::word(b"\n");
     next
 }
 
 fn ask(slate: Slate, rec: Record, strip: &[u16], p: [usize; 19]) {
     let leader = LEADER;
-    text::word(b"asked:");
-    text::counts(frame::line_of(
+    say::word(b"asked:");
+    strip::tell(frame::line_of(
         slate,
         rec,
         strip::part(strip, plan::of(p, plan::STRIP)),
@@ -71,24 +76,24 @@ fn ask(slate: Slate, rec: Record, strip: &[u16], p: [usize; 19]) {
 }
 
 fn show(strip: &[u16], p: [usize; 19]) {
-    text::word(b"shown:");
-    text::counts(strip::part(strip, plan::of(p, plan::STRIP)));
+    say::word(b"shown:");
+    strip::tell(strip::part(strip, plan::of(p, plan::STRIP)));
 }
 
 fn try_slate(p: [usize; 19]) {
     let slated = plan::slate_of(p);
-    text::word(b"slated: ");
+    say::word(b"slated: ");
     match slated {
-        Slated::Refused(t) => text::refusal(t),
+        Slated::Refused(t) => say::refusal(t),
         Slated::Made(slate) => {
-            text::number(slate.frame_size() as u64);
-            text::word(b" counts");
+            say::number(slate.frame_size() as u64);
+            say::word(b" counts");
         }
     }
-    text::word(b"\n");
+    say::word(b"\n");
 }
 
-// A record with one number more, or with all.
+// A record with one number more, which stands at the place before it, or with all.
 fn marked(rec: Record, number: usize) -> Record {
     let mut next = rec;
     if number == 0 {
@@ -97,16 +102,16 @@ fn marked(rec: Record, number: usize) -> Record {
         let at = (number % 100 + 98) % 99;
         next.marks[at] = true;
     }
-    text::word(b"marked: ");
+    say::word(b"marked: ");
     tally(next);
-    text::word(b"\n");
+    say::word(b"\n");
     next
 }
 
 // Does what a step says, and answers the record after it.
 fn act(deed: usize, slate: Slate, rec: Record, strip: &mut [u16; 128], p: [usize; 19]) -> Record {
     match deed {
-        plan::OPEN | plan::OFFER => hand(deed, slate, rec, strip, p),
+        plan::OPEN | plan::OFFER => handle(deed, slate, rec, strip, p),
         plan::MARK => marked(rec, plan::of(p, plan::NUMBER)),
         plan::ASK => {
             ask(slate, rec, strip, p);
@@ -126,7 +131,7 @@ fn act(deed: usize, slate: Slate, rec: Record, strip: &mut [u16; 128], p: [usize
 
 // Plays the steps of a table. What a step changes in the plan holds up to the next deed.
 pub(crate) fn play(title: &[u8], base: [usize; 19], t: &[usize]) {
-    text::word(title);
+    say::word(title);
     let Slated::Made(slate) = plan::slate_of(base) else {
         return;
     };

@@ -9,7 +9,6 @@ mod orders;
 mod plan;
 mod slates;
 mod strip;
-mod text;
 
 fn main() {
     night::run();

@@ -51,7 +51,7 @@ const OFFERS: [usize; 69] = [
     OFFER + plan::SEGMENT + 1_002,
     OFFER + plan::SEGMENT + 3_003,
     OFFER + plan::SEGMENT + 3_006,
-    // the same file again, another take of it, the other byte order, and one of entries
+    // the same file again, another take of it, the other byte order, and one with entries
     OFFER + plan::SEGMENT + 2_003,
     AND + plan::TAKE + 2,
     OFFER + plan::SEGMENT + 2_003,
@@ -62,7 +62,7 @@ const OFFERS: [usize; 69] = [
     AND + plan::ENTRIES + 2,
     AND + plan::BYTES + 1487,
     OFFER + plan::SEGMENT + 2_003,
-    // damaged: each refusal of a file
+    // damaged: SHORT twice, NUMBER, ORDER, LENGTH, FIXED, PACKED, FIELD, HEADER SUM, DATA SUM, NAME, CUT and TAIL
     OFFER + plan::BYTES + 0,
     OFFER + plan::BYTES + 1462,
     OFFER + plan::BYTE + 282 * 256 + 3,

@@ -2,7 +2,6 @@
 use crate::floor;
 use crate::plan;
 use crate::strip;
-use crate::text;
 use frame::Record;
 use rules::Verdict;
 use slate::Slate;
@@ -31,10 +30,10 @@ struct Outcome {
 
 // Tells of a file's answer, and puts it into a number.
 fn answer(k: usize, v: Verdict) -> u16 {
-    text::number(k as u64);
-    text::word(b" ");
-    text::verdict(v);
-    text::word(b", ");
+    say::number(k as u64);
+    say::word(b" ");
+    say::verdict(v, b"OK");
+    say::word(b", ");
     match v {
         Verdict::Fine => 0,
         Verdict::Refused(t) => {
@@ -47,13 +46,13 @@ fn answer(k: usize, v: Verdict) -> u16 {
 // Offers every file: each one is so many files after the last, and 11 is a prime.
 fn offer_all(slate: Slate, base: [usize; 19], stride: usize) -> Outcome {
     let mut strip = [strip::BARE; 128];
-    let opened = floor::held(plan::OPEN, slate, frame::empty(), &mut strip, base);
+    let opened = floor::open_or_offer(plan::OPEN, slate, frame::empty(), &mut strip, base);
     let mut rec = opened.rec;
     let mut k = 0;
     for _ in 0..10u8 {
         k = (k + stride % 11) % 11;
         let p = plan::changed(base, FILES[k]);
-        let held = floor::held(plan::OFFER, slate, rec, &mut strip, p);
+        let held = floor::open_or_offer(plan::OFFER, slate, rec, &mut strip, p);
         let v = held.verdict;
         strip[64 + k] = answer(k, v);
         let next = held.rec;
@@ -68,14 +67,14 @@ fn compare(a: Outcome, b: Outcome) {
     let strip_b = b.strip;
     floor::tally(b.rec);
     if strip::same(&strip_a, &strip_b) & strip::same_marks(a.rec, b.rec) {
-        text::word(b", the same answers, record and strip\n");
+        say::word(b", the same answers, record and strip\n");
     } else {
-        text::word(b", OTHERWISE\n");
+        say::word(b", OTHERWISE\n");
     }
 }
 
 pub(crate) fn run() {
-    text::word(b"-- the same files in several orders\n");
+    say::word(b"-- the same files in several orders\n");
     let base = plan::cut(4, 6, 2, 48, 1479);
     let Slated::Made(slate) = plan::slate_of(base) else {
         return;
@@ -83,7 +82,7 @@ pub(crate) fn run() {
     let forward = offer_all(slate, base, 1);
     let strip = forward.strip;
     compare(forward, forward);
-    text::counts(strip::part(&strip, 48));
+    strip::tell(strip::part(&strip, 48));
     for stride in 2..11 {
         compare(forward, offer_all(slate, base, stride));
     }

@@ -1,6 +1,5 @@
 // A plan: what a slate, a file and a question are made of, each part at its place.
 // A step is a number: what is done, the part that is changed for it, and that part's value below 2 to the 32.
-use crate::text;
 use slate::Slate;
 use slate::Slated;
 ghost use Prim.Native.Nat.{_<_};
@@ -44,24 +43,24 @@ pub const TOTAL: usize = 7 * PART;
 
 pub const LINES: usize = 8 * PART;
 
-// The parts of a file alone: its number times 1,000 and its first line,
+// The parts that a file alone has. Its number times 1,000, and its first line.
 pub const SEGMENT: usize = 9 * PART;
 
 pub const ORDER: usize = 10 * PART;
 
-// which counts it has: those of a take tell it, the first line and their places; take 0 is all 65,534,
+// Its counts: they tell the take, the first line and their places, or are 65,534 in take 0.
 pub const TAKE: usize = 11 * PART;
 
-// how many entries its block 10 has,
+// How many entries its block 10 has.
 pub const ENTRIES: usize = 12 * PART;
 
-// a byte that is damaged: its place times 256, and the byte,
+// A byte that is damaged: its place times 256, and what it is.
 pub const BYTE: usize = 13 * PART;
 
-// and how many bytes there are.
+// How many bytes there are.
 pub const BYTES: usize = 14 * PART;
 
-// How many counts the lent strip and leader have, the line that is asked for, and the number that is marked.
+// How many counts the strip and the leader have that are lent, the line that is asked for, and the number that is marked.
 pub const STRIP: usize = 15 * PART;
 
 pub const LEADER: usize = 16 * PART;
@@ -70,7 +69,7 @@ pub const LINE: usize = 17 * PART;
 
 pub const NUMBER: usize = 18 * PART;
 
-// Segment 1 of ten; its damaged byte lies past its end.
+// Segment 1 of ten of the night at 0200. The damaged byte lies past its end.
 pub const MODEL: [usize; 19] = [
     0,
     8,
@@ -167,21 +166,16 @@ pub(crate) fn slate_of(p: [usize; 19]) -> Slated {
 
 // Two numbers in one value.
 fn pair(a: usize, between: &[u8], b: usize) {
-    text::number(a as u64);
-    text::word(between);
-    text::number(b as u64);
+    say::number(a as u64);
+    say::named(between, b as u64);
 }
 
 fn tell_value(part: usize, x: usize) {
-    let mut letters = [0u8; 4];
     match part {
-        5 => {
-            wire::put_u32(&mut letters, 0, (x % PART) as u32, 1);
-            text::word(&letters);
-        }
-        9 => pair(x / 1000, b" from line ", x % 1000),
-        13 => pair(x / 256, b" as ", x % 256),
-        _ => text::number(x as u64),
+        AREA => say::letters((x % PART) as u32),
+        SEGMENT => pair(x / 1000, b" from line ", x % 1000),
+        BYTE => pair(x / 256, b" as ", x % 256),
+        _ => say::number(x as u64),
     }
 }
 
@@ -207,7 +201,7 @@ fn tell_name(part: usize) {
         leader    \
         line      \
         number    ";
-    text::name(wire::piece(names, 10 * (part % 19), 10));
+    say::trimmed(wire::piece(names, 10 * (part % 19), 10));
 }
 
 // Tells of a change, where it is one.
@@ -215,7 +209,8 @@ pub(crate) fn tell(x: usize) {
     let part = place(x);
     if part != 0 {
         tell_name(part);
-        tell_value(part, value(x));
-        text::word(b", ");
+        say::word(b" ");
+        tell_value(part * PART, value(x));
+        say::word(b", ");
     }
 }

@@ -1,4 +1,4 @@
-// Strips of counts: their parts, and whether two of them, or two records, are the same.
+// Strips of counts: their parts, their line, and whether two of them, or two records, are the same.
 use frame::Record;
 
 // What a strip holds before a frame is opened on it.
@@ -32,4 +32,15 @@ pub(crate) fn part(s: &[u16], n: usize) -> &[u16] {
 
 pub(crate) fn part_mut(s: &mut [u16], n: usize) -> &mut [u16] {
     if n <= s.len() { &mut s[0..n] } else { s }
+}
+
+// Counts, each after a blank, and the line's end.
+pub(crate) fn tell(s: &[u16]) {
+    if s.len() == 0 {
+        say::word(b" empty");
+    }
+    for i in 0..s.len() {
+        say::two(s[i]);
+    }
+    say::word(b"\n");
 }

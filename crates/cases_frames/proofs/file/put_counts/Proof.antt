@@ -1,7 +1,5 @@
 -- `cases_frames::file::put_counts` is safe and ends: each turn leaves fewer counts. Assumes nothing.
 use Prim.Native.Nat.{_≤_, _-_}
-use mathlib.Core.Path.{_≡_}
-use lib.ListN.{length}
 use borrow.Author.Needs.{needs}
 use Rattle.cases_frames.proofs.file.put_counts.Statement.{statement}
 use Rattle.cases_frames.proofs.file.put_counts.Tie as tie
