@@ -1,13 +1,12 @@
 //! The images of headers that the writer is tried on, each made from a seed and its number with the
-//! answer that the reference expects, and the tally of the answers.
-
-use std::collections::BTreeMap;
+//! answer that the reference expects, and the refusals that they can lead to.
 
 use crate::accept::{Refusal, FIELD, LENGTH, NAME, ORDER, PACKED, ROOM};
 use crate::damage;
 use crate::make::{Recipe, Sample, GREATEST_A, GREATEST_B, GREATEST_C};
 use crate::mix::{large_case, setting, small_case};
 use crate::random::Random;
+use crate::tally::Row;
 use crate::values::Values;
 
 pub const LONGEST_IMAGE: usize = 65_536;
@@ -178,75 +177,13 @@ fn room_to_waste(length: usize, random: &mut Random) -> usize {
     }
 }
 
-/// Every refusal that an image can lead to. Too many entries in block 10 is not one of them: their
-/// count has two bytes.
-const REFUSALS: [(u8, u8, &str); 10] = [
-    (ORDER, 1, "ORDER"),
-    (LENGTH, 8, "LENGTH"),
-    (LENGTH, 9, "LENGTH"),
-    (PACKED, 2, "PACKED"),
-    (FIELD, 1, "FIELD"),
-    (FIELD, 2, "FIELD"),
-    (FIELD, 5, "FIELD"),
-    (FIELD, 7, "FIELD"),
-    (NAME, 1, "NAME"),
-    (ROOM, 0, "ROOM"),
+/// Every refusal that an image can lead to, with the blocks that it can name. Too many entries in
+/// block 10 is not one of them: their count has two bytes.
+pub const REFUSALS: [Row; 6] = [
+    (ORDER, "ORDER", &[1]),
+    (LENGTH, "LENGTH", &[8, 9]),
+    (PACKED, "PACKED", &[2]),
+    (FIELD, "FIELD", &[1, 2, 5, 7]),
+    (NAME, "NAME", &[1]),
+    (ROOM, "ROOM", &[0]),
 ];
-
-/// How often each kind of image came, and each answer.
-#[derive(Default)]
-pub struct Answers {
-    kinds: BTreeMap<&'static str, u64>,
-    written: u64,
-    refused: BTreeMap<(u8, u8), u64>,
-}
-
-impl Answers {
-    pub fn count(&mut self, kind: &'static str, answer: &Result<Vec<u8>, Refusal>) {
-        *self.kinds.entry(kind).or_default() += 1;
-        match answer {
-            Ok(_) => self.written += 1,
-            Err(refusal) => {
-                *self
-                    .refused
-                    .entry((refusal.number, refusal.block))
-                    .or_default() += 1
-            }
-        }
-    }
-
-    fn refusals(&self, number: u8, block: u8) -> u64 {
-        self.refused.get(&(number, block)).copied().unwrap_or(0)
-    }
-
-    pub fn print(&self) {
-        for (kind, times) in &self.kinds {
-            println!("{times:>9}  {kind}");
-        }
-        println!("{:>9}  written", self.written);
-        for (number, block, name) in REFUSALS {
-            let times = self.refusals(number, block);
-            println!("{times:>9}  {number} {name}, block {block}");
-        }
-    }
-
-    /// No answer that can be given may be missing or rare, and no other may be given.
-    pub fn check(&self, least_written: u64, least: u64) {
-        assert!(
-            self.written >= least_written,
-            "only {} headers written",
-            self.written
-        );
-        let mut listed = 0;
-        for (number, block, name) in REFUSALS {
-            let times = self.refusals(number, block);
-            assert!(
-                times >= least,
-                "{name} in block {block} came only {times} times"
-            );
-            listed += times;
-        }
-        let given: u64 = self.refused.values().sum();
-        assert_eq!(listed, given, "a refusal that no image can lead to");
-    }
-}

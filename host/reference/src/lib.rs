@@ -12,6 +12,7 @@ pub mod mix;
 pub mod proved;
 pub mod random;
 pub mod takes;
+pub mod tally;
 pub mod values;
 
 pub use accept::{accept, Facts, Refusal};

@@ -1,16 +1,14 @@
-//! The inputs on which acceptance is tried, each made from a seed and its number, and the tally of
-//! what became of them.
-
-use std::collections::BTreeMap;
+//! The inputs on which acceptance is tried, each made from a seed and its number, and the refusals
+//! that they can lead to.
 
 use crate::accept::{
-    Facts, Refusal, CUT, DATA_SUM, FIELD, FIXED, HEADER_SUM, LENGTH, NAME, NUMBER, ORDER, PACKED,
-    SHORT, TAIL,
+    CUT, DATA_SUM, FIELD, FIXED, HEADER_SUM, LENGTH, NAME, NUMBER, ORDER, PACKED, SHORT, TAIL,
 };
 use crate::breach::{self, Breach};
 use crate::damage;
 use crate::make::{Recipe, Sample};
 use crate::random::Random;
+use crate::tally::Row;
 
 /// How many inputs of each size there are. The small ones come first; every two breaches of the
 /// rules, in both byte orders and each of the two done first, come last.
@@ -178,7 +176,7 @@ fn segment_case(choice: u64, random: &mut Random) -> Case {
 }
 
 /// Every refusal of a file with the blocks that it can name.
-const REFUSALS: [(u8, &str, &[u8]); 12] = [
+pub const REFUSALS: [Row; 12] = [
     (SHORT, "SHORT", &[1, 2, 3, 4, 5, 6, 7, 8, 9, 10, 11]),
     (NUMBER, "NUMBER", &[1, 2, 3, 4, 5, 6, 7, 8, 9, 10, 11]),
     (ORDER, "ORDER", &[1]),
@@ -192,73 +190,3 @@ const REFUSALS: [(u8, &str, &[u8]); 12] = [
     (CUT, "CUT", &[12]),
     (TAIL, "TAIL", &[12]),
 ];
-
-/// How often each kind of input came, and each answer.
-#[derive(Default)]
-pub struct Tally {
-    kinds: BTreeMap<&'static str, u64>,
-    accepted: u64,
-    refused: BTreeMap<(u8, u8), u64>,
-}
-
-impl Tally {
-    pub fn count(&mut self, kind: &'static str, answer: &Result<Facts, Refusal>) {
-        *self.kinds.entry(kind).or_default() += 1;
-        match answer {
-            Ok(_) => self.accepted += 1,
-            Err(refusal) => {
-                *self
-                    .refused
-                    .entry((refusal.number, refusal.block))
-                    .or_default() += 1
-            }
-        }
-    }
-
-    fn refusals(&self, number: u8, block: u8) -> u64 {
-        self.refused.get(&(number, block)).copied().unwrap_or(0)
-    }
-
-    pub fn print(&self) {
-        for (kind, times) in &self.kinds {
-            println!("{times:>9}  {kind}");
-        }
-        println!("{:>9}  accepted", self.accepted);
-        for (number, name, blocks) in REFUSALS {
-            let all: u64 = blocks
-                .iter()
-                .map(|&block| self.refusals(number, block))
-                .sum();
-            print!("{all:>9}  {number} {name}, by block:");
-            for &block in blocks {
-                print!(" {block}: {}", self.refusals(number, block));
-            }
-            println!();
-        }
-    }
-
-    /// No answer that can be given may be missing or rare, and no other may be given.
-    pub fn check(&self, least: u64, least_by_block: u64) {
-        assert!(
-            self.accepted >= least,
-            "only {} files accepted",
-            self.accepted
-        );
-        let mut listed = 0;
-        for (number, name, blocks) in REFUSALS {
-            let mut all = 0;
-            for &block in blocks {
-                let times = self.refusals(number, block);
-                assert!(
-                    times >= least_by_block,
-                    "{name} in block {block} came only {times} times"
-                );
-                all += times;
-            }
-            assert!(all >= least, "{name} came only {all} times");
-            listed += all;
-        }
-        let given: u64 = self.refused.values().sum();
-        assert_eq!(listed, given, "a refusal named a block that it cannot name");
-    }
-}

@@ -7,8 +7,9 @@ use std::thread;
 use std::time::Instant;
 
 use reference::accept;
-use reference::mix::{Plan, Tally};
+use reference::mix::{Plan, REFUSALS};
 use reference::proved::{self, Bridge};
+use reference::tally::Tally;
 
 fn main() {
     let plan = Arc::new(Plan::new(1_000_000));
@@ -32,7 +33,7 @@ fn main() {
         requests.end().expect("the bridge reads");
     });
 
-    let mut tally = Tally::default();
+    let mut tally = Tally::new("accepted", &REFUSALS);
     for (number, (kind, expected)) in told.iter().enumerate() {
         let given = answers.next_file().expect("the bridge answers");
         if !proved::agrees(&expected, &given) {
@@ -57,5 +58,6 @@ fn main() {
         plan.cases(),
         began.elapsed().as_secs_f64()
     );
-    tally.check(plan.small / 200, plan.small / 2_000);
+    let least = plan.small / 200;
+    tally.check(least, least, plan.small / 2_000);
 }

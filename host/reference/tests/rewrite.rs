@@ -9,7 +9,8 @@ use std::sync::Arc;
 use std::thread;
 use std::time::Instant;
 
-use reference::images::{Answers, Asked, Images};
+use reference::images::{Asked, Images, REFUSALS};
+use reference::tally::Tally;
 use reference::Refusal;
 
 /// With this the program fills its output before it writes.
@@ -33,7 +34,7 @@ fn main() {
         }
     });
 
-    let mut tally = Answers::default();
+    let mut tally = Tally::new("written", &REFUSALS);
     for (number, (kind, room, expected)) in told.iter().enumerate() {
         let due = answer_due(room, &expected);
         let mut given = vec![0; 2 + room];
@@ -61,7 +62,8 @@ fn main() {
         images.cases,
         began.elapsed().as_secs_f64()
     );
-    tally.check(images.cases / 12, images.cases / 600);
+    let least = images.cases / 600;
+    tally.check(images.cases / 12, least, least);
 }
 
 /// Starts the program that writes what it read.

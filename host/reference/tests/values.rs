@@ -2,9 +2,10 @@
 
 use reference::accept::{accept, FIELD, LENGTH, NAME, ORDER, PACKED, ROOM};
 use reference::damage;
-use reference::images::{Answers, Images};
+use reference::images::{Images, REFUSALS};
 use reference::make::{Recipe, Sample, GREATEST_A, GREATEST_B, GREATEST_C};
 use reference::random::Random;
+use reference::tally::Tally;
 use reference::Values;
 
 fn make(recipe: &Recipe) -> Sample {
@@ -398,14 +399,15 @@ fn of_two_faults_the_earlier_answers() {
 #[test]
 fn the_images_reach_every_answer() {
     let images = Images::new(12_000);
-    let mut answers = Answers::default();
+    let mut tally = Tally::new("written", &REFUSALS);
     for number in 0..images.cases {
         let asked = images.case(number);
         assert!(asked.image.len() <= 65_536 && asked.room <= 400_000);
         let again = Values::of_image(&asked.image).write(asked.room);
         assert!(again == asked.expected);
-        answers.count(asked.kind, &again);
+        tally.count(asked.kind, &again);
     }
-    answers.print();
-    answers.check(images.cases / 12, images.cases / 600);
+    tally.print();
+    let least = images.cases / 600;
+    tally.check(images.cases / 12, least, least);
 }
