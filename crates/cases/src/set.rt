@@ -2,6 +2,7 @@
 use crate::change;
 use crate::change::WHAT;
 use crate::plan;
+use libc::STDOUT_FILENO;
 
 // Added to a number or a length once for each block, and to a byte of block 1 once for each byte before it.
 pub const BLOCK: usize = WHAT;
@@ -300,24 +301,34 @@ pub(crate) fn apply(out: &mut [u8], p: [usize; 22], x: usize) {
     }
 }
 
+pub(crate) fn letters(n: u32) -> bool {
+    let b = wire::four(n, 1);
+    io::write_all(STDOUT_FILENO, &b)
+}
+
 fn tell_value(field: usize, value: usize) {
-    say::word(b" ");
+    io::write_all(STDOUT_FILENO, b" ");
     match field % 100 {
-        LETTERS => say::letters((value % WHAT) as u32),
-        UPPER => say::hex(value as u64, 8),
-        BARE => say::hex(value as u64, 2),
-        _ => say::number(value as u64),
+        LETTERS => letters((value % WHAT) as u32),
+        UPPER => io::print_hex(STDOUT_FILENO, value as u64, 8),
+        BARE => io::print_hex(STDOUT_FILENO, value as u64, 2),
+        _ => io::print_decimal(STDOUT_FILENO, value as u64),
     }
+    ;
 }
 
 fn tell_name(what: usize) {
     if what < 1000 {
         let names = NAMES;
-        say::word(b" ");
-        say::trimmed(wire::piece(&names, 16 * what, 16));
+        io::write_all(STDOUT_FILENO, b" ");
+        io::write_all(
+            STDOUT_FILENO,
+            say::trimmed(wire::piece(&names, 16 * what, 16)),
+        );
         return;
     }
-    say::named(b" byte ", (what - 1000) as u64);
+    io::write_all(STDOUT_FILENO, b" byte ");
+    io::print_decimal(STDOUT_FILENO, (what - 1000) as u64);
 }
 
 // Tells of a change, where it is one.
@@ -328,9 +339,10 @@ pub(crate) fn tell(x: usize) {
     }
     let field = field_of(what);
     let block = field / 1000000;
-    say::word(b",");
+    io::write_all(STDOUT_FILENO, b",");
     if block != 0 {
-        say::named(b" set block ", block as u64);
+        io::write_all(STDOUT_FILENO, b" set block ");
+        io::print_decimal(STDOUT_FILENO, block as u64);
     }
     tell_name(what);
     tell_value(field, change::value(x));

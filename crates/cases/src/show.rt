@@ -4,15 +4,16 @@ use crate::make;
 use crate::set;
 use accept::Answer;
 use accept::Facts;
+use libc::STDOUT_FILENO;
 
 fn tell(x: [usize; 4]) {
     if x[0] / change::FILE % 2 == 1 {
-        say::word(b"little");
+        io::write_all(STDOUT_FILENO, b"little");
     } else {
-        say::word(b"big");
+        io::write_all(STDOUT_FILENO, b"big");
     }
     if change::LITTLE_FULL <= x[0] {
-        say::word(b" full");
+        io::write_all(STDOUT_FILENO, b" full");
     }
     set::tell(x[0]);
     set::tell(x[1]);
@@ -20,38 +21,56 @@ fn tell(x: [usize; 4]) {
     set::tell(x[3]);
 }
 
+fn number(n: u64) {
+    io::write_all(STDOUT_FILENO, b" ");
+    io::print_decimal(STDOUT_FILENO, n);
+}
+
+// Numbers of one, two and four bytes: so no caller has to prove a cast.
+fn one(n: u8) {
+    number(n as u64);
+}
+
+fn two(n: u16) {
+    number(n as u64);
+}
+
+fn four(n: u32) {
+    number(n as u64);
+}
+
 // What the listing writes.
 fn tell_shot(f: Facts) {
-    say::word(b": OK");
-    say::one(f.satellite);
-    say::four(f.day);
-    say::two(f.timeline);
-    say::two(f.band);
-    say::word(b" ");
-    say::letters(f.area);
-    say::two(f.columns);
-    say::two(f.lines);
-    say::one(f.number);
-    say::one(f.total);
-    say::two(f.first);
+    io::write_all(STDOUT_FILENO, b": OK");
+    one(f.satellite);
+    four(f.day);
+    two(f.timeline);
+    two(f.band);
+    io::write_all(STDOUT_FILENO, b" ");
+    set::letters(f.area);
+    two(f.columns);
+    two(f.lines);
+    one(f.number);
+    one(f.total);
+    two(f.first);
 }
 
 // The facts that the listing leaves out.
 fn tell_rest(f: Facts) {
-    say::word(b", order and bits");
-    say::one(f.order);
-    say::two(f.bits);
-    say::word(b", entries and header");
-    say::two(f.a);
-    say::two(f.b);
-    say::two(f.c);
-    say::four(f.header);
-    say::word(b", quality and calibration");
-    say::one(f.quality);
-    say::word(b" ");
-    say::hex(f.gain, 16);
-    say::word(b" ");
-    say::hex(f.constant, 16);
+    io::write_all(STDOUT_FILENO, b", order and bits");
+    one(f.order);
+    two(f.bits);
+    io::write_all(STDOUT_FILENO, b", entries and header");
+    two(f.a);
+    two(f.b);
+    two(f.c);
+    four(f.header);
+    io::write_all(STDOUT_FILENO, b", quality and calibration");
+    one(f.quality);
+    io::write_all(STDOUT_FILENO, b" ");
+    io::print_hex(STDOUT_FILENO, f.gain, 16);
+    io::write_all(STDOUT_FILENO, b" ");
+    io::print_hex(STDOUT_FILENO, f.constant, 16);
 }
 
 fn answer(a: Answer) {
@@ -61,11 +80,13 @@ fn answer(a: Answer) {
             tell_rest(f);
         }
         Answer::Refused(t) => {
-            say::word(b": ");
-            say::refusal(t);
+            let mut room = [0u8; 64];
+            let n = listing::refusal(&mut room, t);
+            io::write_all(STDOUT_FILENO, b": ");
+            io::write_all(STDOUT_FILENO, wire::piece(&room, 0, n));
         }
     }
-    say::word(b"\n");
+    io::write_all(STDOUT_FILENO, b"\n");
 }
 
 fn length(n: usize, x: [usize; 4]) -> usize {

@@ -1,4 +1,5 @@
 // Bytes and numbers read at places of a run of bytes.
+use libc::STDOUT_FILENO;
 
 pub const BYTES: [u8; 9] = [0x01, 0x23, 0x45, 0x67, 0x89, 0xab, 0xcd, 0xef, 0x5a];
 
@@ -34,43 +35,57 @@ const RUN: [u8; 6] = [1, 2, 1, 2, 1, 3];
 // Two pieces of RUN: place and length of one, and of the other.
 const PAIRS: [[u64; 4]; 4] = [[0, 2, 2, 2], [0, 2, 4, 2], [0, 2, 0, 3], [0, 0, 6, 0]];
 
+fn byte(b: u8) {
+    io::print_hex(STDOUT_FILENO, b as u64, 2);
+}
+
+pub(crate) fn bytes(s: &[u8]) {
+    if s.len() == 0 {
+        io::write_all(STDOUT_FILENO, b"empty");
+    }
+    for i in 0..s.len() {
+        byte(s[i]);
+    }
+}
+
 // A place of a run of bytes, which ends what is asked.
 pub(crate) fn place(at: usize, s: &[u8]) {
-    say::named(b" at ", at as u64);
-    say::word(b" of ");
-    say::bytes(s);
-    say::word(b": ");
+    io::write_all(STDOUT_FILENO, b" at ");
+    io::print_decimal(STDOUT_FILENO, at as u64);
+    io::write_all(STDOUT_FILENO, b" of ");
+    bytes(s);
+    io::write_all(STDOUT_FILENO, b": ");
 }
 
 fn show_byte(s: &[u8], at: usize) {
-    say::word(b"byte");
+    io::write_all(STDOUT_FILENO, b"byte");
     place(at, s);
-    say::byte(wire::byte_at(s, at));
-    say::word(b"\n");
+    byte(wire::byte_at(s, at));
+    io::write_all(STDOUT_FILENO, b"\n");
 }
 
 fn show_left(s: &[u8], at: usize) {
-    say::word(b"left");
+    io::write_all(STDOUT_FILENO, b"left");
     place(at, s);
-    say::number(wire::left(s, at) as u64);
-    say::word(b"\n");
+    io::print_decimal(STDOUT_FILENO, wire::left(s, at) as u64);
+    io::write_all(STDOUT_FILENO, b"\n");
 }
 
 fn show_rest(s: &[u8], at: usize) {
-    say::word(b"rest");
+    io::write_all(STDOUT_FILENO, b"rest");
     place(at, s);
-    say::bytes(wire::rest(s, at));
-    say::word(b"\n");
+    bytes(wire::rest(s, at));
+    io::write_all(STDOUT_FILENO, b"\n");
 }
 
 fn show_fill(s: &[u8], at: usize) {
     let mut buf = [0xeeu8; 4];
-    say::word(b"fill ");
-    say::bytes(&buf);
+    io::write_all(STDOUT_FILENO, b"fill ");
+    bytes(&buf);
     place(at, s);
     wire::fill(&mut buf, s, at);
-    say::bytes(&buf);
-    say::word(b"\n");
+    bytes(&buf);
+    io::write_all(STDOUT_FILENO, b"\n");
 }
 
 fn show_place(s: &[u8], at: usize) {
@@ -100,11 +115,17 @@ fn show_number(s: &[u8], row: [u64; 3]) {
     let width = (row[0] % 256) as u8;
     let order = (row[1] % 256) as u8;
     let at = row[2] as usize;
-    say::named(b"u", 8 * (width as u64));
-    say::named(b" order ", order as u64);
+    io::write_all(STDOUT_FILENO, b"u");
+    io::print_decimal(STDOUT_FILENO, 8 * (width as u64));
+    io::write_all(STDOUT_FILENO, b" order ");
+    io::print_decimal(STDOUT_FILENO, order as u64);
     place(at, s);
-    say::hex(number_at(s, width, order, at), 2 * (width as usize));
-    say::word(b"\n");
+    io::print_hex(
+        STDOUT_FILENO,
+        number_at(s, width, order, at),
+        2 * (width as usize),
+    );
+    io::write_all(STDOUT_FILENO, b"\n");
 }
 
 pub(crate) fn run_numbers() {
@@ -117,10 +138,11 @@ pub(crate) fn run_numbers() {
 fn show_piece(s: &[u8], row: [u64; 2]) {
     let n = row[0] as usize;
     let at = row[1] as usize;
-    say::named(b"piece ", n as u64);
+    io::write_all(STDOUT_FILENO, b"piece ");
+    io::print_decimal(STDOUT_FILENO, n as u64);
     place(at, s);
-    say::bytes(wire::piece(s, at, n));
-    say::word(b"\n");
+    bytes(wire::piece(s, at, n));
+    io::write_all(STDOUT_FILENO, b"\n");
 }
 
 pub(crate) fn run_pieces() {
@@ -131,11 +153,15 @@ pub(crate) fn run_pieces() {
 }
 
 fn show_same(a: &[u8], b: &[u8]) {
-    say::word(b"same ");
-    say::bytes(a);
-    say::word(b" ");
-    say::bytes(b);
-    say::choice(wire::same(a, b), b": yes\n", b": no\n");
+    io::write_all(STDOUT_FILENO, b"same ");
+    bytes(a);
+    io::write_all(STDOUT_FILENO, b" ");
+    bytes(b);
+    if wire::same(a, b) {
+        io::write_all(STDOUT_FILENO, b": yes\n");
+    } else {
+        io::write_all(STDOUT_FILENO, b": no\n");
+    }
 }
 
 fn show_pair(s: &[u8], row: [u64; 4]) {

@@ -2,6 +2,7 @@
 use crate::reads;
 use crate::reads::BYTES;
 use crate::reads::TOP;
+use libc::STDOUT_FILENO;
 
 // How many bytes, the number, the byte order and the place.
 const NUMBERS: [[u64; 4]; 14] = [
@@ -27,14 +28,16 @@ const RUNS: [[u64; 2]; 3] = [[3, 3], [3, 7], [9, TOP]];
 // What is stored, and its name.
 fn show_what(width: u8, x: u64, order: u8) {
     if width == 1 {
-        say::word(b"put_byte ");
-        say::hex(x, 2);
+        io::write_all(STDOUT_FILENO, b"put_byte ");
+        io::print_hex(STDOUT_FILENO, x, 2);
         return;
     }
-    say::named(b"put_u", 8 * (width as u64));
-    say::word(b" ");
-    say::hex(x, 2 * (width as usize));
-    say::named(b" order ", order as u64);
+    io::write_all(STDOUT_FILENO, b"put_u");
+    io::print_decimal(STDOUT_FILENO, 8 * (width as u64));
+    io::write_all(STDOUT_FILENO, b" ");
+    io::print_hex(STDOUT_FILENO, x, 2 * (width as usize));
+    io::write_all(STDOUT_FILENO, b" order ");
+    io::print_decimal(STDOUT_FILENO, order as u64);
 }
 
 fn store(out: &mut [u8], width: u8, x: u64, order: u8, at: usize) {
@@ -54,8 +57,8 @@ fn show_number(row: [u64; 4]) {
     show_what(width, row[1], order);
     reads::place(at, &buf);
     store(&mut buf, width, row[1], order, at);
-    say::bytes(&buf);
-    say::word(b"\n");
+    reads::bytes(&buf);
+    io::write_all(STDOUT_FILENO, b"\n");
 }
 
 pub(crate) fn run_numbers() {
@@ -66,12 +69,12 @@ pub(crate) fn run_numbers() {
 
 fn show_run(run: &[u8], at: usize) {
     let mut buf = [0xeeu8; 9];
-    say::word(b"put ");
-    say::bytes(run);
+    io::write_all(STDOUT_FILENO, b"put ");
+    reads::bytes(run);
     reads::place(at, &buf);
     wire::put(&mut buf, at, run);
-    say::bytes(&buf);
-    say::word(b"\n");
+    reads::bytes(&buf);
+    io::write_all(STDOUT_FILENO, b"\n");
 }
 
 fn show_first(s: &[u8], row: [u64; 2]) {

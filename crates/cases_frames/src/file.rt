@@ -9,14 +9,12 @@ fn glyph(n: usize) -> u8 {
 // Files are of July 2015, before which 57,203 is the last day.
 fn name(p: [usize; 19]) -> [u8; 128] {
     let d = plan::of(p, plan::DAY) % 57203;
-    let mut area = [0u8; 4];
-    wire::put_u32(&mut area, 0, plan::long(p, plan::AREA), 1);
     format::name_for(
         plan::byte(p, plan::SATELLITE),
         [b'2', b'0', b'1', b'5', b'0', b'7', glyph(d / 10), glyph(d)],
         plan::short(p, plan::TIMELINE),
         plan::short(p, plan::BAND),
-        area,
+        wire::four(plan::long(p, plan::AREA), 1),
         plan::number(p),
         plan::byte(p, plan::TOTAL),
     )

@@ -4,6 +4,8 @@ use crate::plan;
 use crate::strip;
 use frame::Held;
 use frame::Record;
+use libc::STDOUT_FILENO;
+use rules::Verdict;
 use slate::Line;
 use slate::Slate;
 use slate::Slated;
@@ -31,9 +33,15 @@ pub(crate) fn open_or_offer(
     )
 }
 
+pub(crate) fn tell(v: Verdict) {
+    let mut room = [0u8; 64];
+    let n = say::verdict(&mut room, v, b"OK");
+    io::write_all(STDOUT_FILENO, wire::piece(&room, 0, n));
+}
+
 pub(crate) fn tally(rec: Record) {
-    say::number(frame::tally(rec) as u64);
-    say::word(b" in");
+    io::print_decimal(STDOUT_FILENO, frame::tally(rec) as u64);
+    io::write_all(STDOUT_FILENO, b" in");
 }
 
 // Does so, and tells the answer, and whether record and strip are as they were.
@@ -49,23 +57,23 @@ fn handle(
     let v = held.verdict;
     let next = held.rec;
     if deed == plan::OPEN {
-        say::word(b"opened: ");
+        io::write_all(STDOUT_FILENO, b"opened: ");
     } else {
-        say::word(b"offered: ");
+        io::write_all(STDOUT_FILENO, b"offered: ");
     }
-    say::verdict(v, b"OK");
-    say::word(b", ");
+    tell(v);
+    io::write_all(STDOUT_FILENO, b", ");
     tally(next);
     if strip::same(&before, strip) & strip::same_marks(rec, next) {
-        say::word(b", kept");
+        io::write_all(STDOUT_FILENO, b", kept");
     }
-    say::word(b"\n");
+    io::write_all(STDOUT_FILENO, b"\n");
     next
 }
 
 fn ask(slate: Slate, rec: Record, strip: &[u16], p: [usize; 19]) {
     let leader = LEADER;
-    say::word(b"asked:");
+    io::write_all(STDOUT_FILENO, b"asked:");
     strip::tell(frame::line_of(
         slate,
         rec,
@@ -76,21 +84,21 @@ fn ask(slate: Slate, rec: Record, strip: &[u16], p: [usize; 19]) {
 }
 
 fn show(strip: &[u16], p: [usize; 19]) {
-    say::word(b"shown:");
+    io::write_all(STDOUT_FILENO, b"shown:");
     strip::tell(strip::part(strip, plan::of(p, plan::STRIP)));
 }
 
 fn try_slate(p: [usize; 19]) {
     let slated = plan::slate_of(p);
-    say::word(b"slated: ");
+    io::write_all(STDOUT_FILENO, b"slated: ");
     match slated {
-        Slated::Refused(t) => say::refusal(t),
+        Slated::Refused(t) => tell(Verdict::Refused(t)),
         Slated::Made(slate) => {
-            say::number(slate.frame_size() as u64);
-            say::word(b" counts");
+            io::print_decimal(STDOUT_FILENO, slate.frame_size() as u64);
+            io::write_all(STDOUT_FILENO, b" counts");
         }
     }
-    say::word(b"\n");
+    io::write_all(STDOUT_FILENO, b"\n");
 }
 
 // A record with one number more, which stands at the place before it, or with all.
@@ -102,9 +110,9 @@ fn marked(rec: Record, number: usize) -> Record {
         let at = (number % 100 + 98) % 99;
         next.marks[at] = true;
     }
-    say::word(b"marked: ");
+    io::write_all(STDOUT_FILENO, b"marked: ");
     tally(next);
-    say::word(b"\n");
+    io::write_all(STDOUT_FILENO, b"\n");
     next
 }
 
@@ -131,7 +139,7 @@ fn act(deed: usize, slate: Slate, rec: Record, strip: &mut [u16; 128], p: [usize
 
 // Plays the steps of a table. What a step changes in the plan holds up to the next deed.
 pub(crate) fn play(title: &[u8], base: [usize; 19], t: &[usize]) {
-    say::word(title);
+    io::write_all(STDOUT_FILENO, title);
     let Slated::Made(slate) = plan::slate_of(base) else {
         return;
     };

@@ -3,6 +3,7 @@ use crate::floor;
 use crate::plan;
 use crate::strip;
 use frame::Record;
+use libc::STDOUT_FILENO;
 use rules::Verdict;
 use slate::Slate;
 use slate::Slated;
@@ -30,10 +31,10 @@ struct Outcome {
 
 // Tells of a file's answer, and puts it into a number.
 fn answer(k: usize, v: Verdict) -> u16 {
-    say::number(k as u64);
-    say::word(b" ");
-    say::verdict(v, b"OK");
-    say::word(b", ");
+    io::print_decimal(STDOUT_FILENO, k as u64);
+    io::write_all(STDOUT_FILENO, b" ");
+    floor::tell(v);
+    io::write_all(STDOUT_FILENO, b", ");
     match v {
         Verdict::Fine => 0,
         Verdict::Refused(t) => {
@@ -67,14 +68,14 @@ fn compare(a: Outcome, b: Outcome) {
     let strip_b = b.strip;
     floor::tally(b.rec);
     if strip::same(&strip_a, &strip_b) & strip::same_marks(a.rec, b.rec) {
-        say::word(b", the same answers, record and strip\n");
+        io::write_all(STDOUT_FILENO, b", the same answers, record and strip\n");
     } else {
-        say::word(b", OTHERWISE\n");
+        io::write_all(STDOUT_FILENO, b", OTHERWISE\n");
     }
 }
 
 pub(crate) fn run() {
-    say::word(b"-- the same files in several orders\n");
+    io::write_all(STDOUT_FILENO, b"-- the same files in several orders\n");
     let base = plan::cut(4, 6, 2, 48, 1479);
     let Slated::Made(slate) = plan::slate_of(base) else {
         return;

@@ -1,5 +1,6 @@
 // A plan: what a slate, a file and a question are made of, each part at its place.
 // A step is a number: what is done, the part that is changed for it, and that part's value below 2 to the 32.
+use libc::STDOUT_FILENO;
 use slate::Slate;
 use slate::Slated;
 ghost use Prim.Native.Nat.{_<_};
@@ -164,18 +165,28 @@ pub(crate) fn slate_of(p: [usize; 19]) -> Slated {
     )
 }
 
+fn decimal(n: usize) {
+    io::print_decimal(STDOUT_FILENO, n as u64);
+}
+
+fn letters(n: u32) {
+    let b = wire::four(n, 1);
+    io::write_all(STDOUT_FILENO, &b);
+}
+
 // Two numbers in one value.
 fn pair(a: usize, between: &[u8], b: usize) {
-    say::number(a as u64);
-    say::named(between, b as u64);
+    decimal(a);
+    io::write_all(STDOUT_FILENO, between);
+    decimal(b);
 }
 
 fn tell_value(part: usize, x: usize) {
     match part {
-        AREA => say::letters((x % PART) as u32),
+        AREA => letters((x % PART) as u32),
         SEGMENT => pair(x / 1000, b" from line ", x % 1000),
         BYTE => pair(x / 256, b" as ", x % 256),
-        _ => say::number(x as u64),
+        _ => decimal(x),
     }
 }
 
@@ -201,7 +212,10 @@ fn tell_name(part: usize) {
         leader    \
         line      \
         number    ";
-    say::trimmed(wire::piece(names, 10 * (part % 19), 10));
+    io::write_all(
+        STDOUT_FILENO,
+        say::trimmed(wire::piece(names, 10 * (part % 19), 10)),
+    );
 }
 
 // Tells of a change, where it is one.
@@ -209,8 +223,8 @@ pub(crate) fn tell(x: usize) {
     let part = place(x);
     if part != 0 {
         tell_name(part);
-        say::word(b" ");
+        io::write_all(STDOUT_FILENO, b" ");
         tell_value(part * PART, value(x));
-        say::word(b", ");
+        io::write_all(STDOUT_FILENO, b", ");
     }
 }

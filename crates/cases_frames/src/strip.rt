@@ -1,5 +1,6 @@
 // Strips of counts: their parts, their line, and whether two of them, or two records, are the same.
 use frame::Record;
+use libc::STDOUT_FILENO;
 
 // What a strip holds before a frame is opened on it.
 pub const BARE: u16 = 7;
@@ -34,13 +35,18 @@ pub(crate) fn part_mut(s: &mut [u16], n: usize) -> &mut [u16] {
     if n <= s.len() { &mut s[0..n] } else { s }
 }
 
+fn tell_count(n: u16) {
+    io::write_all(STDOUT_FILENO, b" ");
+    io::print_decimal(STDOUT_FILENO, n as u64);
+}
+
 // Counts, each after a blank, and the line's end.
 pub(crate) fn tell(s: &[u16]) {
     if s.len() == 0 {
-        say::word(b" empty");
+        io::write_all(STDOUT_FILENO, b" empty");
     }
     for i in 0..s.len() {
-        say::two(s[i]);
+        tell_count(s[i]);
     }
-    say::word(b"\n");
+    io::write_all(STDOUT_FILENO, b"\n");
 }

@@ -1,7 +1,6 @@
 // Headers that are written, read back and written again.
 use crate::lists;
-use crate::values;
-use header::Header;
+use libc::STDOUT_FILENO;
 use rules::Verdict;
 
 // The byte that every output is filled with before a case: it shows what was kept.
@@ -36,20 +35,35 @@ fn blank_from(out: &[u8], at: usize) -> bool {
     wire::same(wire::rest(out, at), wire::rest(&blank, at))
 }
 
-fn title(row: [u32; 4]) {
-    say::word(b"order");
-    say::four(row[0]);
-    say::word(b" a");
-    say::four(row[1]);
-    say::word(b" b");
-    say::four(row[2]);
-    say::word(b" c");
-    say::four(row[3]);
-    say::word(b": header ");
+fn tell(v: Verdict, done: &[u8]) {
+    let mut room = [0u8; 64];
+    let n = say::verdict(&mut room, v, done);
+    io::write_all(STDOUT_FILENO, wire::piece(&room, 0, n));
 }
 
-// Reads the entries of a file, and writes them with its values; a refusal to read them is told.
-fn rewrite(out: &mut [u8], file: &[u8], h: Header) -> Verdict {
+fn tell_whether(yes: bool, a: &[u8], b: &[u8]) {
+    if yes {
+        io::write_all(STDOUT_FILENO, a);
+    } else {
+        io::write_all(STDOUT_FILENO, b);
+    }
+}
+
+fn named(word: &[u8], n: u32) {
+    io::write_all(STDOUT_FILENO, word);
+    io::print_decimal(STDOUT_FILENO, n as u64);
+}
+
+fn title(row: [u32; 4]) {
+    named(b"order ", row[0]);
+    named(b" a ", row[1]);
+    named(b" b ", row[2]);
+    named(b" c ", row[3]);
+    io::write_all(STDOUT_FILENO, b": header ");
+}
+
+// Reads a file, and writes the header that it has; a refusal to read is told.
+fn rewrite(out: &mut [u8], file: &[u8]) -> Verdict {
     let mut lines8 = [0u16; 8192];
     let mut xs = [0u32; 8192];
     let mut ys = [0u32; 8192];
@@ -57,12 +71,16 @@ fn rewrite(out: &mut [u8], file: &[u8], h: Header) -> Verdict {
     let mut times = [0u64; 8192];
     let mut lines10 = [0u16; 16384];
     let mut pixels = [0u16; 16384];
-    say::verdict(
+    let r = reader::read(file);
+    let h = r.header;
+    let v = r.verdict;
+    tell(v, b", read");
+    tell(
         reader::read_shifts(file, &mut lines8, &mut xs, &mut ys),
         b"",
     );
-    say::verdict(reader::read_times(file, &mut lines9, &mut times), b"");
-    say::verdict(reader::read_errors(file, &mut lines10, &mut pixels), b"");
+    tell(reader::read_times(file, &mut lines9, &mut times), b"");
+    tell(reader::read_errors(file, &mut lines10, &mut pixels), b"");
     let a = header::a_of(file) as usize;
     let b = header::b_of(file) as usize;
     let c = header::c_of(file) as usize;
@@ -82,16 +100,11 @@ fn rewrite(out: &mut [u8], file: &[u8], h: Header) -> Verdict {
 // Reads a file of n bytes of header, and writes that header again. kept: whether the first output's rest was.
 fn again(file: &[u8], n: usize, kept: bool) {
     let mut out = [BLANK; 60000];
-    let r = reader::read(file);
-    let h = r.header;
-    let v = r.verdict;
-    say::verdict(accept::verdict(file), b", accepted");
-    say::verdict(v, b", read");
-    let v = rewrite(&mut out, file, h);
-    say::verdict(v, b", written again ");
+    tell(accept::verdict(file), b", accepted");
+    tell(rewrite(&mut out, file), b", written again ");
     let same = wire::same(wire::piece(file, 0, n), wire::piece(&out, 0, n));
-    say::choice(same, b"the same", b"OTHERWISE");
-    say::choice(
+    tell_whether(same, b"the same", b"OTHERWISE");
+    tell_whether(
         kept & blank_from(&out, n),
         b", rest kept\n",
         b", REST CHANGED\n",
@@ -106,11 +119,11 @@ fn show(row: [u32; 4]) {
     let mut out = [BLANK; 60000];
     let counts = COUNTS;
     title(row);
-    let v = lists::write(&mut out, values::named(values::nameless(order)), a, b, c);
+    let v = lists::write(&mut out, order, a, b, c);
     // the length that the header states of itself
     let n = wire::u32_at(&out, 70, order) as usize;
-    say::number(n as u64);
-    say::verdict(v, b", written");
+    io::print_decimal(STDOUT_FILENO, n as u64);
+    tell(v, b", written");
     let kept = blank_from(&out, n);
     wire::put(&mut out, n, &counts);
     again(wire::piece(&out, 0, n + 16), n, kept);

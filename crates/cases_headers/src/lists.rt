@@ -1,5 +1,5 @@
 // The entries of blocks 8, 9 and 10, made for a case.
-use header::Header;
+use crate::values;
 use rules::Verdict;
 
 // n numbers of a list from a place on.
@@ -46,8 +46,9 @@ fn fill64(dst: &mut [u64]) {
     }
 }
 
-// Writes a header with lists of a, b and c entries.
-pub(crate) fn write(out: &mut [u8], h: Header, a: usize, b: usize, c: usize) -> Verdict {
+// Writes a good header with lists of a, b and c entries.
+pub(crate) fn write(out: &mut [u8], order: u8, a: usize, b: usize, c: usize) -> Verdict {
+    let h = values::good(order);
     let mut shorts = [0u16; 49152];
     let mut shifts = [0u32; 16384];
     let mut times = [0u64; 8192];

@@ -6,17 +6,16 @@ use header::Block7;
 use header::Block8;
 use header::Header;
 
-// The day that the name tells.
-const DATE: [u8; 8] = *b"20150707";
-
+// Its name tells the day besides.
 fn block1(order: u8) -> Block1 {
     let mut satellite = [0u8; 16];
+    let area = [b'F', b'L', b'D', b'K'];
     wire::put(&mut satellite, 0, b"Himawari-8");
     Block1 {
         order,
         satellite,
         centre: [0x11; 16],
-        area: [b'F', b'L', b'D', b'K'],
+        area,
         other: [0x12; 2],
         timeline: 200,
         started: 0x0102_0304_0506_0708,
@@ -27,7 +26,7 @@ fn block1(order: u8) -> Block1 {
         quality3: 0x33,
         quality4: 0x34,
         version: [0x13; 32],
-        name: [0; 128],
+        name: format::name_for(8, *b"20150707", 200, 13, area, 1, 2),
         spare: [0x14; 40],
     }
 }
@@ -71,8 +70,7 @@ fn block8() -> Block8 {
     }
 }
 
-// The values but for the name.
-pub(crate) fn nameless(order: u8) -> Header {
+pub(crate) fn good(order: u8) -> Header {
     Header {
         block1: block1(order),
         block2: block2(),
@@ -86,26 +84,4 @@ pub(crate) fn nameless(order: u8) -> Header {
         spare10: [0xa0; 40],
         spare11: [0xb0; 256],
     }
-}
-
-// The values with the name that they spell.
-pub(crate) fn named(nameless: Header) -> Header {
-    let mut h = nameless;
-    let mut block1 = h.block1;
-    let block5 = h.block5;
-    let block7 = h.block7;
-    let satellite = block1.satellite;
-    let area = block1.area;
-    let name = format::name_for(
-        format::satellite_of(satellite),
-        DATE,
-        block1.timeline,
-        block5.band,
-        area,
-        block7.number,
-        block7.total,
-    );
-    block1.name = name;
-    h.block1 = block1;
-    h
 }

@@ -1,4 +1,5 @@
 // What counts read as.
+use libc::STDOUT_FILENO;
 use reading::Reading;
 
 // The bits of floats that several cases have.
@@ -81,36 +82,39 @@ const COUNTS: [[u64; 4]; 44] = [
 
 // A radiance by its bits. A NaN has none of its own to ask for, and is never expected.
 fn answer_radiance(v: f64) {
-    say::word(b"radiance ");
+    io::write_all(STDOUT_FILENO, b"radiance ");
     if v != v {
-        say::word(b"NaN");
+        io::write_all(STDOUT_FILENO, b"NaN");
         return;
     }
-    say::hex(f64::to_bits(v), 16);
+    io::print_hex(STDOUT_FILENO, f64::to_bits(v), 16);
 }
 
 fn answer(r: Reading) {
     match r {
-        Reading::Radiance(v) => answer_radiance(v),
-        Reading::ErrorPixel => say::word(b"error pixel"),
-        Reading::Outside => say::word(b"outside"),
-        Reading::OverRange => say::word(b"over range"),
-        Reading::Uncalibrated => say::word(b"uncalibrated"),
+        Reading::Radiance(v) => return answer_radiance(v),
+        Reading::ErrorPixel => io::write_all(STDOUT_FILENO, b"error pixel"),
+        Reading::Outside => io::write_all(STDOUT_FILENO, b"outside"),
+        Reading::OverRange => io::write_all(STDOUT_FILENO, b"over range"),
+        Reading::Uncalibrated => io::write_all(STDOUT_FILENO, b"uncalibrated"),
     }
+    ;
 }
 
 fn show(row: [u64; 4]) {
     let bits = (row[2] % 65536) as u16;
     let count = (row[3] % 65536) as u16;
-    say::word(b"count ");
-    say::hex(row[0], 16);
-    say::word(b" ");
-    say::hex(row[1], 16);
-    say::two(bits);
-    say::two(count);
-    say::word(b": ");
+    io::write_all(STDOUT_FILENO, b"count ");
+    io::print_hex(STDOUT_FILENO, row[0], 16);
+    io::write_all(STDOUT_FILENO, b" ");
+    io::print_hex(STDOUT_FILENO, row[1], 16);
+    io::write_all(STDOUT_FILENO, b" ");
+    io::print_decimal(STDOUT_FILENO, bits as u64);
+    io::write_all(STDOUT_FILENO, b" ");
+    io::print_decimal(STDOUT_FILENO, count as u64);
+    io::write_all(STDOUT_FILENO, b": ");
     answer(reading::read(reading::calibration_of(row[0], row[1], bits), count));
-    say::word(b"\n");
+    io::write_all(STDOUT_FILENO, b"\n");
 }
 
 pub(crate) fn run() {

@@ -1,5 +1,7 @@
 // Dates as Modified Julian Days.
+use crate::shots;
 use calendar::Dated;
+use libc::STDOUT_FILENO;
 use rules::Refusal;
 use rules::Why;
 
@@ -37,22 +39,25 @@ const DATES: [[u32; 3]; 24] = [
 // A date that does not exist breaks the rule of the name, in block 1.
 fn answer(d: Dated) {
     match d {
-        Dated::Day(day) => say::number(day as u64),
-        Dated::NoSuchDate => say::refusal(Refusal {
+        Dated::Day(day) => io::print_decimal(STDOUT_FILENO, day as u64),
+        Dated::NoSuchDate => shots::refuse(Refusal {
             why: Why::Name,
             block: 1,
         }),
     }
+    ;
 }
 
 fn show(row: [u32; 3]) {
-    say::word(b"date");
-    say::four(row[0]);
-    say::four(row[1]);
-    say::four(row[2]);
-    say::word(b": ");
+    io::write_all(STDOUT_FILENO, b"date ");
+    io::print_decimal(STDOUT_FILENO, row[0] as u64);
+    io::write_all(STDOUT_FILENO, b" ");
+    io::print_decimal(STDOUT_FILENO, row[1] as u64);
+    io::write_all(STDOUT_FILENO, b" ");
+    io::print_decimal(STDOUT_FILENO, row[2] as u64);
+    io::write_all(STDOUT_FILENO, b": ");
     answer(calendar::day_of(row[0], row[1], row[2]));
-    say::word(b"\n");
+    io::write_all(STDOUT_FILENO, b"\n");
 }
 
 pub(crate) fn run() {

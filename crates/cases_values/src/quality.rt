@@ -1,4 +1,5 @@
 // The marks of quality flag 1.
+use libc::STDOUT_FILENO;
 use reading::Mark;
 
 const FLAGS: [u8; 12] = [
@@ -21,17 +22,17 @@ fn tell(before: bool, m: Mark, name: &[u8]) -> bool {
     match m {
         Mark::No => before,
         Mark::Yes => {
-            say::word(b" ");
-            say::word(name);
+            io::write_all(STDOUT_FILENO, b" ");
+            io::write_all(STDOUT_FILENO, name);
             true
         }
     }
 }
 
 fn show(flag: u8) {
-    say::word(b"marks ");
-    say::byte(flag);
-    say::word(b":");
+    io::write_all(STDOUT_FILENO, b"marks ");
+    io::print_hex(STDOUT_FILENO, flag as u64, 2);
+    io::write_all(STDOUT_FILENO, b":");
     let m = reading::marks_of(flag);
     let invalid = m.invalid;
     let sun = m.sun;
@@ -50,9 +51,9 @@ fn show(flag: u8) {
     let any = tell(any, solar_calibration, b"solar_calibration");
     let any = tell(any, eclipse, b"eclipse");
     if !any {
-        say::word(b" none");
+        io::write_all(STDOUT_FILENO, b" none");
     }
-    say::word(b"\n");
+    io::write_all(STDOUT_FILENO, b"\n");
 }
 
 pub(crate) fn run() {

@@ -1,6 +1,8 @@
 // Shots: their slots, and their numbers on the film.
 use calendar::FilmFrame;
 use calendar::Slotted;
+use libc::STDOUT_FILENO;
+use rules::Refusal;
 
 // Day and timeline.
 const SHOTS: [[u32; 2]; 17] = [
@@ -49,24 +51,44 @@ fn timeline_of(x: u32) -> u16 {
 }
 
 fn show_shot(day: u32, timeline: u16) {
-    say::four(day);
-    say::two(timeline);
+    io::write_all(STDOUT_FILENO, b" ");
+    io::print_decimal(STDOUT_FILENO, day as u64);
+    io::write_all(STDOUT_FILENO, b" ");
+    io::print_decimal(STDOUT_FILENO, timeline as u64);
+}
+
+// Tells of a refusal, and answers as the kit's printers do: whether it was written.
+pub(crate) fn refuse(t: Refusal) -> bool {
+    let mut room = [0u8; 64];
+    let n = listing::refusal(&mut room, t);
+    io::write_all(STDOUT_FILENO, wire::piece(&room, 0, n))
+}
+
+// A number that may be negative.
+fn signed(n: i64) -> bool {
+    if n < 0 {
+        io::write_all(STDOUT_FILENO, b"-");
+        // -n itself does not fit where n is the lowest number
+        return io::print_decimal(STDOUT_FILENO, ((-1 - n) as u64) + 1);
+    }
+    io::print_decimal(STDOUT_FILENO, n as u64)
 }
 
 fn answer_slot(s: Slotted) {
     match s {
-        Slotted::Slot(n) => say::number(n),
-        Slotted::Refused(t) => say::refusal(t),
+        Slotted::Slot(n) => io::print_decimal(STDOUT_FILENO, n),
+        Slotted::Refused(t) => refuse(t),
     }
+    ;
 }
 
 fn show_slot(row: [u32; 2]) {
     let timeline = timeline_of(row[1]);
-    say::word(b"slot");
+    io::write_all(STDOUT_FILENO, b"slot");
     show_shot(row[0], timeline);
-    say::word(b": ");
+    io::write_all(STDOUT_FILENO, b": ");
     answer_slot(calendar::slot(row[0], timeline));
-    say::word(b"\n");
+    io::write_all(STDOUT_FILENO, b"\n");
 }
 
 pub(crate) fn run_slots() {
@@ -77,20 +99,21 @@ pub(crate) fn run_slots() {
 
 fn answer_film(f: FilmFrame) {
     match f {
-        FilmFrame::Number(n) => say::signed(n),
-        FilmFrame::Refused(t) => say::refusal(t),
+        FilmFrame::Number(n) => signed(n),
+        FilmFrame::Refused(t) => refuse(t),
     }
+    ;
 }
 
 fn show_film(row: [u32; 4]) {
     let first = timeline_of(row[1]);
     let timeline = timeline_of(row[3]);
-    say::word(b"film");
+    io::write_all(STDOUT_FILENO, b"film");
     show_shot(row[0], first);
     show_shot(row[2], timeline);
-    say::word(b": ");
+    io::write_all(STDOUT_FILENO, b": ");
     answer_film(calendar::frame_number(row[0], first, row[2], timeline));
-    say::word(b"\n");
+    io::write_all(STDOUT_FILENO, b"\n");
 }
 
 pub(crate) fn run_films() {

@@ -1,5 +1,6 @@
 // Changes of good values as numbers: what is changed, and the value below 2 to the 32 that it gets.
 // A number begins a case, and one with AND after it is a further change of that case.
+use libc::STDOUT_FILENO;
 ghost use Prim.Native.Nat.{_<_};
 
 // What is changed is a multiple of this.
@@ -124,19 +125,26 @@ pub(crate) fn either(x: usize, y: usize, thing: usize, old: usize) -> usize {
 // A byte of the name as its place and letter.
 fn tell_glyph(x: usize) {
     let glyph = [byte(x)];
-    say::number((x / 256) as u64);
-    say::word(b" '");
-    say::word(&glyph);
-    say::word(b"'");
+    io::print_decimal(STDOUT_FILENO, (x / 256) as u64);
+    io::write_all(STDOUT_FILENO, b" '");
+    io::write_all(STDOUT_FILENO, &glyph);
+    io::write_all(STDOUT_FILENO, b"'");
+}
+
+fn tell_letters(n: u32) {
+    let b = wire::four(n, 1);
+    io::write_all(STDOUT_FILENO, &b);
 }
 
 fn tell_value(x: usize) {
     let n = value(x);
-    say::word(b" ");
+    io::write_all(STDOUT_FILENO, b" ");
     match what(x) {
-        AREA => say::letters(n as u32),
+        AREA => tell_letters(n as u32),
         NAME => tell_glyph(n),
-        _ => say::number(n as u64),
+        _ => {
+            io::print_decimal(STDOUT_FILENO, n as u64);
+        }
     }
 }
 
@@ -148,7 +156,10 @@ pub(crate) fn further(x: usize) -> usize {
 // Tells of a change, or that there is none.
 pub(crate) fn tell(x: usize) {
     let names = NAMES;
-    say::trimmed(wire::piece(&names, 20 * (x / WHAT % 26), 20));
+    io::write_all(
+        STDOUT_FILENO,
+        say::trimmed(wire::piece(&names, 20 * (x / WHAT % 26), 20)),
+    );
     if x != NOTHING {
         tell_value(x);
     }

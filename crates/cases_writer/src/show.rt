@@ -15,6 +15,7 @@ use crate::change::ROOM;
 use crate::change::TIMES;
 use crate::given;
 use header::Header;
+use libc::STDOUT_FILENO;
 use rules::Verdict;
 
 // The byte that every output is filled with before a case: it shows what was kept.
@@ -74,11 +75,15 @@ fn write_in(out: &mut [u8], x: usize, y: usize) -> Verdict {
 fn ending(out: &[u8]) {
     let kept = [BLANK; OUTPUT];
     if wire::same(out, &kept) {
-        say::word(b", output kept\n");
+        io::write_all(STDOUT_FILENO, b", output kept\n");
         return;
     }
     let same = wire::same(wire::rest(out, 1535), wire::rest(&kept, 1535));
-    say::choice(same, b", rest kept\n", b", REST CHANGED\n");
+    if same {
+        io::write_all(STDOUT_FILENO, b", rest kept\n");
+    } else {
+        io::write_all(STDOUT_FILENO, b", REST CHANGED\n");
+    }
 }
 
 // The case that a number begins, if it does.
@@ -88,13 +93,15 @@ pub(crate) fn case(x: usize, next: usize) {
     }
     let y = change::further(next);
     let mut out = [BLANK; OUTPUT];
+    let mut room = [0u8; 64];
     change::tell(x);
     if y != NOTHING {
-        say::word(b", ");
+        io::write_all(STDOUT_FILENO, b", ");
         change::tell(y);
     }
-    say::word(b": ");
+    io::write_all(STDOUT_FILENO, b": ");
     let v = write_in(&mut out, x, y);
-    say::verdict(v, b"written");
+    let n = say::verdict(&mut room, v, b"written");
+    io::write_all(STDOUT_FILENO, wire::piece(&room, 0, n));
     ending(&out);
 }

@@ -6,7 +6,7 @@ use mathlib.Core.List.{List, [], _∷_, _++_}
 use lib.ListN.{length, drop}
 use lib.Dec.{ltb}
 use Rattle.wire.specs.Wire.{digits, join}
-use Rattle.rules.specs.Rules.{turned, Reply, says, refuses}
+use Rattle.rules.specs.Rules.{Turned, turned, Reply, says, refuses}
 use Rattle.format.specs.Texts.{decimal}
 use Rattle.accept.specs.declared.Facts.{Facts}
 use Rattle.accept.specs.Answers.{answerOf}
@@ -38,7 +38,11 @@ shot satellite day timeline band area = join (plain satellite ∷ plain day ∷ 
 unfoldable pub segment : ℕ → ℕ → ℕ → ℕ → ℕ → List ℕ
 segment columns lines number total first = join (plain columns ∷ plain lines ∷ plain number ∷ plain total ∷ plain first ∷ [])
 
--- OK, the shot and the segment; or NO, the refusal's number and its block
+-- what a refusal says: NO, its number and its block
+unfoldable pub refusalOf : Turned → List ℕ
+refusalOf (turned n b) = join ((78 ∷ 79 ∷ []) ∷ plain n ∷ plain b ∷ [])
+
+-- OK, the shot and the segment; or what the refusal says
 unfoldable pub lineOf : Reply Facts → List ℕ
 lineOf (says f) =
     join (
@@ -48,7 +52,7 @@ lineOf (says f) =
     ∷ (10 ∷ [])
     ∷ []
     )
-lineOf (refuses (turned n b)) = join ((78 ∷ 79 ∷ []) ∷ plain n ∷ plain b ∷ (10 ∷ []) ∷ [])
+lineOf (refuses t) = join (refusalOf t ∷ (10 ∷ []) ∷ [])
 
 -- what is printed of a file: BIG beyond 65,536 bytes, and else the line of its answer
 unfoldable pub listed : List ℕ → List ℕ

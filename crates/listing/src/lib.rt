@@ -8,7 +8,7 @@ ghost use Rattle.wire.specs.Wire.{Stored};
 ghost use Rattle.rules.specs.Rules.{paperOf, says, refuses};
 ghost use Rattle.format.specs.Texts.{decimal};
 ghost use Rattle.accept.specs.Answers.{paperAnswer};
-ghost use Rattle.listing.specs.Lines.{width, plain, four, letters, shot, segment, lineOf, Listed};
+ghost use Rattle.listing.specs.Lines.{width, plain, four, letters, shot, segment, refusalOf, lineOf, Listed};
 
 // How many digits a number has.
 fn width_of(n: u32) -> usize
@@ -109,6 +109,16 @@ fn put_segment(
     p - at
 }
 
+// What a refusal says, stored at the front of a lent slice; answers how many bytes that is.
+pub fn refusal(out: &mut [u8], t: Refusal) -> usize
+    ensures { λ r. ⌜ Stored r (now (out .entry)) 0 (refusalOf (paperOf t)) (now (out .exit)) × (r ≤ 24) ⌝ }
+{
+    let why = t.why;
+    wire::put(out, 0, b"NO");
+    let at = 2 + put_plain(out, 2, rules::number_of(why) as u32);
+    at + put_plain(out, at, t.block as u32)
+}
+
 // The line of each answer; no facts and no refusal make it longer than 64 bytes.
 fn put_accepted(out: &mut [u8], f: Facts) -> usize
     ensures { λ r. ⌜ Stored r (now (out .entry)) 0 (lineOf (says f)) (now (out .exit)) × (r ≤ 64) ⌝ }
@@ -123,10 +133,7 @@ fn put_accepted(out: &mut [u8], f: Facts) -> usize
 fn put_refused(out: &mut [u8], t: Refusal) -> usize
     ensures { λ r. ⌜ Stored r (now (out .entry)) 0 (lineOf (refuses (paperOf t))) (now (out .exit)) × (r ≤ 64) ⌝ }
 {
-    let why = t.why;
-    wire::put(out, 0, b"NO");
-    let at = 2 + put_plain(out, 2, rules::number_of(why) as u32);
-    let at = at + put_plain(out, at, t.block as u32);
+    let at = refusal(out, t);
     wire::put_byte(out, at, b'\n');
     at + 1
 }

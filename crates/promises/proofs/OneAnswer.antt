@@ -22,6 +22,7 @@ use Rattle.wire.proofs.put4.Reads as put4
 use Rattle.wire.proofs.put40.Reads as put40
 use Rattle.wire.proofs.put256.Reads as put256
 use Rattle.wire.proofs.put_byte.Reads as put-byte
+use Rattle.wire.proofs.four.Reads as four
 use Rattle.wire.proofs.put_u16.Reads as put-u16
 use Rattle.wire.proofs.put_u32.Reads as put-u32
 use Rattle.wire.proofs.put_u64.Reads as put-u64
@@ -103,7 +104,10 @@ use Rattle.reader.proofs.read_times.Reads as read-times
 use Rattle.reader.proofs.read_errors.Reads as read-errors
 use Rattle.blocks.proofs.write_front.Reads as write-front
 use Rattle.writer.proofs.write.Reads as write
+use Rattle.listing.proofs.refusal.Reads as refusal
 use Rattle.listing.proofs.line.Reads as line
+use Rattle.say.proofs.verdict.Reads as say-verdict
+use Rattle.say.proofs.trimmed.Reads as trimmed
 
 pub byte-at-one : One (λ κ x s. x) byte-at.Post
 byte-at-one κ a x y s t p q = p ∙ sym q
@@ -149,6 +153,9 @@ put256-one κ a x y s t p q = p .is ∙ sym (q .is)
 
 pub put-byte-one : One (λ κ x s. now (s .0)) put-byte.Post
 put-byte-one κ a x y s t p q = p .is ∙ sym (q .is)
+
+pub four-one : One (λ κ x s. x) four.Post
+four-one κ a x y s t p q = p ∙ sym q
 
 pub put-u16-one : One (λ κ x s. now (s .0)) put-u16.Post
 put-u16-one κ a x y s t p q = p .is ∙ sym (q .is)
@@ -402,8 +409,17 @@ write-front-one κ a x y s t p q = p .is ∙ sym (q .is)
 pub write-one : One (λ κ x s. x) write.Post × One (λ κ x s. now (s .0)) write.Post
 write-one = (λ κ a x y s t p q. paper-one x y (p .says ∙ sym (q .says)), λ κ a x y s t p q. p .leaves ∙ sym (q .leaves))
 
+pub refusal-one : One (λ κ x s. x) refusal.Post × One (λ κ x s. now (s .0)) refusal.Post
+refusal-one = (λ κ a x y s t p q. sym (p .0 .long) ∙ q .0 .long, λ κ a x y s t p q. p .0 .is ∙ sym (q .0 .is))
+
 pub line-one : One (λ κ x s. x) line.Post × One (λ κ x s. now (s .1 .0)) line.Post
 line-one = (λ κ a x y s t p q. p .long ∙ sym (q .long), λ κ a x y s t p q. p .is ∙ sym (q .is))
+
+pub say-verdict-one : One (λ κ x s. x) say-verdict.Post × One (λ κ x s. now (s .0)) say-verdict.Post
+say-verdict-one = (λ κ a x y s t p q. sym (p .long) ∙ q .long, λ κ a x y s t p q. p .is ∙ sym (q .is))
+
+pub trimmed-one : One (λ κ x s. now x) trimmed.Post
+trimmed-one κ a x y s t p q = p ∙ sym q
 
 pub hsd-open-one : One (λ κ x s. x) hsd-open.Post × (One (λ κ x s. now (s .1 .0)) hsd-open.Post × One (λ κ x s. now (s .1 .1 .0)) hsd-open.Post)
 hsd-open-one = (

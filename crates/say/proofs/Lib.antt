@@ -1,2 +1,2 @@
--- The laws of the proofs of `say`.
-pub mod Distance
+-- The laws that the proofs share.
+mod Blanks

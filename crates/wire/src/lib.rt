@@ -187,7 +187,7 @@ fn two(x: u16, order: u8) -> [u8; 2]
     if order == 0 { [a, b] } else { [b, a] }
 }
 
-fn four(x: u32, order: u8) -> [u8; 4]
+pub fn four(x: u32, order: u8) -> [u8; 4]
     ensures { λ r. ⌜ r ≡ digits order 4 x ⌝ }
 {
     let a = (x % 256) as u8;

@@ -1,10 +1,10 @@
--- `say::bytes` is safe and ends: each turn leaves fewer bytes. Assumes nothing.
+-- `bytes` is safe and ends: each turn leaves fewer bytes. Assumes nothing.
 use Prim.Native.Nat.{_≤_, _-_}
 use mathlib.Core.Path.{_≡_}
 use lib.ListN.{length}
 use borrow.Author.Needs.{needs}
-use Rattle.say.proofs.bytes.Statement.{statement}
-use Rattle.say.proofs.bytes.Tie as tie
+use Rattle.cases_bytes.proofs.reads.bytes.Statement.{statement}
+use Rattle.cases_bytes.proofs.reads.bytes.Tie as tie
 
 abbrev Inv-loop : tie.InvT-loop
 Inv-loop s i₀ i-end i = (i ≤ i-end) × (i-end ≡ length s)

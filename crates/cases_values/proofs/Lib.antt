@@ -1,0 +1,2 @@
+-- The law of the proof of `signed`.
+mod Distance
