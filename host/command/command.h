@@ -20,10 +20,14 @@ typedef struct File {
     const uint8_t *bytes;
     size_t length;
     bool mapped;
+    int from; /* of a mapped file: open until it is closed */
 } File;
 
 bool open_file(const char *name, File *file);
 void close_file(File *file);
+
+/* Ends the command where a mapped file is shorter than it was: to be called before anything is said of its bytes. */
+void expect_whole(const File *file);
 
 /* The most columns that a good slate has. */
 enum { WIDEST = 22000 };

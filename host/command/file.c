@@ -1,6 +1,7 @@
 /* A file's bytes: mapped where that can be done, so that a frame's files are never copied twice, and else read. */
 #include <errno.h>
 #include <fcntl.h>
+#include <signal.h>
 #include <stdlib.h>
 #include <string.h>
 #include <sys/mman.h>
@@ -14,7 +15,8 @@ enum { ENOUGH = 394563 + 968000000 + 1 };
 
 static const uint8_t no_bytes[1];
 
-/* A mapped file that shrinks meanwhile raises SIGBUS, which ends the command (main.c). */
+/* A mapped file that shrinks meanwhile raises SIGBUS, which ends the command (main.c). Within its last page it reads as zeros instead:
+   expect_whole finds that. */
 static bool map_file(int from, File *file)
 {
     off_t length = lseek(from, 0, SEEK_END);
@@ -23,7 +25,7 @@ static bool map_file(int from, File *file)
     void *bytes = mmap(NULL, (size_t)length, PROT_READ, MAP_PRIVATE, from, 0);
     if (bytes == MAP_FAILED)
         return false;
-    *file = (File){.bytes = bytes, .length = (size_t)length, .mapped = true};
+    *file = (File){.bytes = bytes, .length = (size_t)length, .mapped = true, .from = from};
     return true;
 }
 
@@ -59,15 +61,23 @@ bool open_file(const char *name, File *file)
     bool good = from >= 0 && (map_file(from, file) || read_file(from, file));
     if (!good)
         complain(name, strerror(errno));
-    if (from >= 0)
+    if (from >= 0 && !(good && file->mapped))
         close(from);
     return good;
 }
 
+void expect_whole(const File *file)
+{
+    if (file->mapped && lseek(file->from, 0, SEEK_END) < (off_t)file->length)
+        raise(SIGBUS);
+}
+
 void close_file(File *file)
 {
-    if (file->mapped)
+    if (file->mapped) {
         munmap((void *)file->bytes, file->length);
-    else if (file->bytes != no_bytes)
+        close(file->from);
+    } else if (file->bytes != no_bytes) {
         free((void *)file->bytes);
+    }
 }

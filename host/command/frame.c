@@ -70,10 +70,12 @@ static bool offer_file(Frame *frame, const char *name)
         return false;
     HsdAnswer answer =
         hsd_offer(frame->slate, frame->marks, HSD_MARKS, frame->counts, frame->length, file.bytes, file.length);
+    unsigned number = hsd_accept(file.bytes, file.length).number;
+    expect_whole(&file);
     if (answer.refusal)
         say("%s: refused %u %s, block %u\n", name, answer.refusal, refusal_name(answer.refusal), answer.block);
     else
-        say("%s: placed %u of %u\n", name, hsd_accept(file.bytes, file.length).number, frame->slate.total);
+        say("%s: placed %u of %u\n", name, number, frame->slate.total);
     close_file(&file);
     return true;
 }

@@ -72,9 +72,10 @@ static FILE *open_part(const char *name)
         errno = ENAMETOOLONG;
         return NULL;
     }
-    signal(SIGINT, drop_part);
-    signal(SIGTERM, drop_part);
-    signal(SIGHUP, drop_part);
+    const int ends[] = {SIGINT, SIGTERM, SIGHUP, SIGQUIT};
+    for (size_t i = 0; i < sizeof ends / sizeof *ends; i++)
+        if (signal(ends[i], drop_part) == SIG_IGN) /* as nohup has it */
+            signal(ends[i], SIG_IGN);
     return fopen(part, "wx");
 }
 

@@ -39,12 +39,12 @@ int misused(const char *subcommand, const char *needs)
     return UNUSABLE;
 }
 
-/* One line that is written over, at most a hundred times. */
+/* One line that the next one is written over, and whatever else is said: at most a hundred times. */
 void show_progress(const char *what, unsigned done, unsigned all)
 {
     if (done < all && done * 100UL / all == (done - 1) * 100UL / all)
         return;
-    fprintf(stderr, "\r%s %u of %u%s", what, done, all, done < all ? "" : "\n");
+    fprintf(stderr, "%s %u of %u%c", what, done, all, done < all ? '\r' : '\n');
 }
 
 bool parse_number(const char *text, unsigned long least, unsigned long most, unsigned *value)
