@@ -1,0 +1,81 @@
+/* What the benchmarks share: a disk's ten segments in memory, and the least times of two ways that take turns. */
+#ifndef BENCH_H
+#define BENCH_H
+
+#include <stdio.h>
+#include <stdlib.h>
+#include <time.h>
+
+#include "hsd.h"
+
+enum { FILES = 10, ROUNDS = 15 };
+
+typedef struct Bench {
+    HsdSlate slate;
+    uint8_t *files[FILES];
+    size_t lengths[FILES];
+    uint8_t marks[HSD_MARKS];
+    uint16_t *frame;
+    size_t size;
+} Bench;
+
+static inline void fail(const char *what)
+{
+    fprintf(stderr, "bench: %s\n", what);
+    exit(1);
+}
+
+static inline uint8_t *load(const char *name, size_t *length)
+{
+    FILE *from = fopen(name, "rb");
+    size_t room = 8000000;
+    uint8_t *bytes = malloc(room);
+    if (!from || !bytes)
+        fail(name);
+    *length = fread(bytes, 1, room, from);
+    fclose(from);
+    return bytes;
+}
+
+/* The segments of the disk that host/bench/run makes, and an opened frame for them. */
+static inline void begin(Bench *b, int count, char **names)
+{
+    if (count != FILES)
+        fail("give ten segments");
+    for (int i = 0; i < FILES; i++)
+        b->files[i] = load(names[i], &b->lengths[i]);
+    b->slate = (HsdSlate){
+        .satellite = 8, .total = FILES, .timeline = 200, .band = 13, .columns = 5500, .lines = 550, .day = 57210, .area = 0x464c444b};
+    b->size = (size_t)5500 * 5500;
+    b->frame = malloc(2 * b->size);
+    if (!b->frame || hsd_open(b->slate, b->marks, HSD_MARKS, b->frame, b->size).refusal)
+        fail("no frame");
+}
+
+static inline double now(void)
+{
+    struct timespec t;
+    clock_gettime(CLOCK_MONOTONIC, &t);
+    return (double)t.tv_sec + (double)t.tv_nsec * 1e-9;
+}
+
+static inline double seconds(void (*run)(Bench *), Bench *b)
+{
+    double began = now();
+    run(b);
+    return now() - began;
+}
+
+/* The least times of rounds that take turns: others use the machine too, and they only ever add time. */
+static inline void compare(const char *what, void (*proved)(Bench *), void (*plain)(Bench *), Bench *b)
+{
+    double least = 1e9, least_plain = 1e9;
+    for (int round = 0; round < ROUNDS; round++) {
+        double took = seconds(proved, b), took_plain = seconds(plain, b);
+        least = took < least ? took : least;
+        least_plain = took_plain < least_plain ? took_plain : least_plain;
+    }
+    printf("%-52s %8.2f ms %8.2f ms  ratio %.2f\n", what, least * 1e3, least_plain * 1e3, least / least_plain);
+}
+
+#endif
