@@ -5,10 +5,10 @@ use Rattle.cases_frames.proofs.orders.run.Statement.{statement}
 use Rattle.cases_frames.proofs.orders.run.Tie as tie
 
 abbrev Inv-loop : tie.InvT-loop
-Inv-loop base slate forward stride₀ stride = stride ≤ 11
+Inv-loop stride₀ t3 stride = stride ≤ 11
 
 abbrev μ-loop : tie.MeasureT-loop
-μ-loop base slate forward stride₀ stride = 11 - stride
+μ-loop stride₀ t3 stride = 11 - stride
 
 pub run-spec : {M : Type 1} → statement M
 run-spec =
@@ -18,18 +18,9 @@ run-spec =
     μ-loop
     (λ c. search needs)
     (λ c κs. search needs)
-    (λ c κs. search needs)
-    (λ c κs. search needs)
-    (λ c. search needs)
-    (λ c. search needs)
     (λ c. search needs)
     (λ c κs. search needs)
-    (λ c κs. search needs)
     (λ c. search needs)
-    (λ c κs. search needs)
-    (λ c κs. search needs)
-    (λ c. search needs)
-    (λ c κs. search needs)
     (λ c κs. search needs)
     (λ c. search needs)
     (λ c. search needs)
