@@ -2,6 +2,7 @@
 use crate::file;
 use crate::plan;
 use crate::strip;
+use crate::words;
 use frame::Held;
 use frame::Record;
 use libc::STDOUT_FILENO;
@@ -12,8 +13,32 @@ use slate::Slated;
 
 const LEADER: [u16; 5] = [901, 902, 903, 904, 905];
 
+fn tell(v: Verdict) {
+    match v {
+        Verdict::Fine => words::tell(words::OK),
+        Verdict::Refused(t) => {
+            let why = t.why;
+            words::tell(words::NO);
+            words::number(rules::number_of(why) as usize);
+            words::number(t.block as usize);
+        }
+    }
+}
+
+// Tells the answer, how many numbers are in, and whether record and strip are as they were.
+fn tell_held(v: Verdict, rec: Record, kept: bool) {
+    tell(v);
+    words::tell(words::COMMA);
+    words::number(frame::tally(rec) as usize);
+    if kept {
+        words::tell(words::IN_KEPT);
+    } else {
+        words::tell(words::IN);
+    }
+}
+
 // Opens the frame, or offers it a file, with as much of the strip as is lent.
-pub(crate) fn open_or_offer(
+fn open_or_offer(
     deed: usize,
     slate: Slate,
     rec: Record,
@@ -33,18 +58,7 @@ pub(crate) fn open_or_offer(
     )
 }
 
-pub(crate) fn tell(v: Verdict) {
-    let mut room = [0u8; 64];
-    let n = say::verdict(&mut room, v, b"OK");
-    io::write_all(STDOUT_FILENO, wire::piece(&room, 0, n));
-}
-
-pub(crate) fn tally(rec: Record) {
-    io::print_decimal(STDOUT_FILENO, frame::tally(rec) as u64);
-    io::write_all(STDOUT_FILENO, b" in");
-}
-
-// Does so, and tells the answer, and whether record and strip are as they were.
+// Does so, tells what came of it, and answers the record after it.
 fn handle(
     deed: usize,
     slate: Slate,
@@ -56,24 +70,13 @@ fn handle(
     let held = open_or_offer(deed, slate, rec, strip, p);
     let v = held.verdict;
     let next = held.rec;
-    if deed == plan::OPEN {
-        io::write_all(STDOUT_FILENO, b"opened: ");
-    } else {
-        io::write_all(STDOUT_FILENO, b"offered: ");
-    }
-    tell(v);
-    io::write_all(STDOUT_FILENO, b", ");
-    tally(next);
-    if strip::same(&before, strip) & strip::same_marks(rec, next) {
-        io::write_all(STDOUT_FILENO, b", kept");
-    }
-    io::write_all(STDOUT_FILENO, b"\n");
+    let kept = strip::same(&before, strip) & strip::same_marks(rec, next);
+    tell_held(v, next, kept);
     next
 }
 
 fn ask(slate: Slate, rec: Record, strip: &[u16], p: [usize; 19]) {
     let leader = LEADER;
-    io::write_all(STDOUT_FILENO, b"asked:");
     strip::tell(frame::line_of(
         slate,
         rec,
@@ -84,21 +87,21 @@ fn ask(slate: Slate, rec: Record, strip: &[u16], p: [usize; 19]) {
 }
 
 fn show(strip: &[u16], p: [usize; 19]) {
-    io::write_all(STDOUT_FILENO, b"shown:");
     strip::tell(strip::part(strip, plan::of(p, plan::STRIP)));
 }
 
 fn try_slate(p: [usize; 19]) {
     let slated = plan::slate_of(p);
-    io::write_all(STDOUT_FILENO, b"slated: ");
     match slated {
-        Slated::Refused(t) => tell(Verdict::Refused(t)),
+        Slated::Refused(t) => {
+            tell(Verdict::Refused(t));
+            words::tell(words::END);
+        }
         Slated::Made(slate) => {
-            io::print_decimal(STDOUT_FILENO, slate.frame_size() as u64);
-            io::write_all(STDOUT_FILENO, b" counts");
+            words::number(slate.frame_size());
+            words::tell(words::COUNTS);
         }
     }
-    io::write_all(STDOUT_FILENO, b"\n");
 }
 
 // A record with one number more, which stands at the place before it, or with all.
@@ -110,9 +113,8 @@ fn marked(rec: Record, number: usize) -> Record {
         let at = (number % 100 + 98) % 99;
         next.marks[at] = true;
     }
-    io::write_all(STDOUT_FILENO, b"marked: ");
-    tally(next);
-    io::write_all(STDOUT_FILENO, b"\n");
+    words::number(frame::tally(next) as usize);
+    words::tell(words::IN);
     next
 }
 

@@ -1,5 +1,4 @@
 // Records, and lines of a frame.
-use crate::floor;
 use crate::plan;
 use crate::plan::AND;
 use crate::plan::ASK;
@@ -7,7 +6,7 @@ use crate::plan::MARK;
 use crate::plan::OFFER;
 use crate::plan::OPEN;
 
-const LINES: [usize; 31] = [
+pub const LINES: [usize; 31] = [
     OPEN,
     ASK + plan::LINE + 3,
     OFFER + plan::SEGMENT + 2_003,
@@ -45,7 +44,7 @@ const LINES: [usize; 31] = [
     ASK + plan::LINE + 1,
 ];
 
-const RECORDS: [usize; 20] = [
+pub const RECORDS: [usize; 20] = [
     OPEN,
     OFFER + plan::SEGMENT + 1_001,
     // marked by hand: no file was placed, but the record alone says what has come
@@ -72,7 +71,7 @@ const RECORDS: [usize; 20] = [
 ];
 
 // 99 segments of one count.
-const NINETY_NINE: [usize; 13] = [
+pub const NINETY_NINE: [usize; 13] = [
     OPEN,
     OFFER + plan::SEGMENT + 99_099,
     OFFER + plan::SEGMENT + 1_001,
@@ -87,12 +86,3 @@ const NINETY_NINE: [usize; 13] = [
     ASK + plan::LINE + 98,
     ASK + plan::LINE + 99,
 ];
-
-pub(crate) fn run() {
-    let t = LINES;
-    floor::play(b"-- lines\n", plan::cut(4, 3, 2, 24, 1479), &t);
-    let t = RECORDS;
-    floor::play(b"-- records\n", plan::cut(4, 3, 2, 24, 1479), &t);
-    let t = NINETY_NINE;
-    floor::play(b"-- 99 segments\n", plan::cut(1, 99, 1, 99, 1465), &t);
-}

@@ -1,5 +1,4 @@
 // The night that this is for: nine segments of 0200 have come, and one of 0210 in the place of the tenth.
-use crate::floor;
 use crate::plan;
 use crate::plan::AND;
 use crate::plan::ASK;
@@ -7,7 +6,7 @@ use crate::plan::OFFER;
 use crate::plan::OPEN;
 use crate::plan::SHOW;
 
-const NIGHT: [usize; 29] = [
+pub const NIGHT: [usize; 29] = [
     OPEN,
     OFFER + plan::SEGMENT + 1_001,
     OFFER + plan::SEGMENT + 2_003,
@@ -41,8 +40,3 @@ const NIGHT: [usize; 29] = [
     ASK + plan::LINE + 21,
     SHOW,
 ];
-
-pub(crate) fn run() {
-    let t = NIGHT;
-    floor::play(b"-- the night of 0200\n", plan::MODEL, &t);
-}

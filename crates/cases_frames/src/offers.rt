@@ -1,5 +1,4 @@
 // Opening frames, and offering them files.
-use crate::floor;
 use crate::plan;
 use crate::plan::AND;
 use crate::plan::ASK;
@@ -8,7 +7,7 @@ use crate::plan::OPEN;
 use crate::plan::SHOW;
 
 // One segment: eight counts, and the ninth is not the frame's.
-const OPENING: [usize; 11] = [
+pub const OPENING: [usize; 11] = [
     SHOW + plan::STRIP + 9,
     OPEN + plan::STRIP + 0,
     OPEN + plan::STRIP + 7,
@@ -23,7 +22,7 @@ const OPENING: [usize; 11] = [
     SHOW + plan::STRIP + 9,
 ];
 
-const OFFERS: [usize; 69] = [
+pub const OFFERS: [usize; 69] = [
     OPEN,
     OFFER + plan::SEGMENT + 2_003,
     // a part that disagrees, in turn
@@ -103,7 +102,7 @@ const OFFERS: [usize; 69] = [
 ];
 
 // Three segments in each byte order, and with entries before their counts.
-const COUNTS: [usize; 22] = [
+pub const COUNTS: [usize; 22] = [
     OPEN,
     OFFER + plan::SEGMENT + 1_001,
     OFFER + plan::SEGMENT + 2_003,
@@ -127,16 +126,3 @@ const COUNTS: [usize; 22] = [
     OFFER + plan::SEGMENT + 3_005,
     SHOW,
 ];
-
-pub(crate) fn run() {
-    let t = OPENING;
-    floor::play(b"-- opening\n", plan::cut(4, 1, 2, 8, 1479), &t);
-    let t = OFFERS;
-    floor::play(b"-- offers\n", plan::cut(4, 3, 2, 24, 1479), &t);
-    let t = COUNTS;
-    floor::play(
-        b"-- byte orders and entries\n",
-        plan::cut(4, 3, 2, 24, 1479),
-        &t,
-    );
-}

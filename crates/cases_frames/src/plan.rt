@@ -1,5 +1,6 @@
 // A plan: what a slate, a file and a question are made of, each part at its place.
 // A step is a number: what is done, the part that is changed for it, and that part's value below 2 to the 32.
+use crate::words;
 use libc::STDOUT_FILENO;
 use slate::Slate;
 use slate::Slated;
@@ -70,29 +71,6 @@ pub const LINE: usize = 17 * PART;
 
 pub const NUMBER: usize = 18 * PART;
 
-// Segment 1 of ten of the night at 0200. The damaged byte lies past its end.
-pub const MODEL: [usize; 19] = [
-    0,
-    8,
-    57210,
-    200,
-    13,
-    0x464c_444b,
-    4,
-    10,
-    2,
-    1_001,
-    0,
-    1,
-    0,
-    0xffff_00,
-    1479,
-    80,
-    4,
-    1,
-    0,
-];
-
 fn place(x: usize) -> usize
     ensures { λ r. ⌜ r < 19 ⌝ }
 {
@@ -109,7 +87,7 @@ pub(crate) fn of(p: [usize; 19], part: usize) -> usize {
     p[place(part)]
 }
 
-pub(crate) fn long(p: [usize; 19], part: usize) -> u32 {
+fn long(p: [usize; 19], part: usize) -> u32 {
     (of(p, part) % PART) as u32
 }
 
@@ -121,21 +99,14 @@ pub(crate) fn byte(p: [usize; 19], part: usize) -> u8 {
     (of(p, part) % 256) as u8
 }
 
-pub(crate) fn number(p: [usize; 19]) -> u8 {
-    (of(p, SEGMENT) / 1000 % 256) as u8
-}
-
-pub(crate) fn first(p: [usize; 19]) -> u16 {
-    (of(p, SEGMENT) % 1000) as u16
-}
-
 pub(crate) fn changed(p: [usize; 19], x: usize) -> [usize; 19] {
     let mut q = p;
     q[place(x)] = value(x);
     q
 }
 
-// The model with another cut, and with the strip and the file that go with it.
+// Segment 1 of the night at 0200, cut into so many columns, segments and lines, with a strip of so many counts and a file
+// of so many bytes. The damaged byte lies past its end.
 pub(crate) fn cut(
     columns: usize,
     total: usize,
@@ -143,13 +114,27 @@ pub(crate) fn cut(
     strip: usize,
     bytes: usize,
 ) -> [usize; 19] {
-    let mut p = MODEL;
-    p[place(COLUMNS)] = columns;
-    p[place(TOTAL)] = total;
-    p[place(LINES)] = lines;
-    p[place(STRIP)] = strip;
-    p[place(BYTES)] = bytes;
-    p
+    [
+        0,
+        8,
+        57210,
+        200,
+        13,
+        0x464c_444b,
+        columns,
+        total,
+        lines,
+        1_001,
+        0,
+        1,
+        0,
+        0xffff_00,
+        bytes,
+        strip,
+        4,
+        1,
+        0,
+    ]
 }
 
 pub(crate) fn slate_of(p: [usize; 19]) -> Slated {
@@ -165,66 +150,29 @@ pub(crate) fn slate_of(p: [usize; 19]) -> Slated {
     )
 }
 
-fn decimal(n: usize) {
-    io::print_decimal(STDOUT_FILENO, n as u64);
-}
-
-fn letters(n: u32) {
-    let b = wire::four(n, 1);
-    io::write_all(STDOUT_FILENO, &b);
-}
-
 // Two numbers in one value.
-fn pair(a: usize, between: &[u8], b: usize) {
-    decimal(a);
-    io::write_all(STDOUT_FILENO, between);
-    decimal(b);
+fn pair(a: usize, between: usize, b: usize) {
+    words::number(a);
+    words::tell(between);
+    words::number(b);
 }
 
 fn tell_value(part: usize, x: usize) {
     match part {
-        AREA => letters((x % PART) as u32),
-        SEGMENT => pair(x / 1000, b" from line ", x % 1000),
-        BYTE => pair(x / 256, b" as ", x % 256),
-        _ => decimal(x),
+        AREA => words::letters((x % PART) as u32),
+        SEGMENT => pair(x / 1000, words::FROM_LINE, x % 1000),
+        BYTE => pair(x / 256, words::AS, x % 256),
+        _ => words::number(x),
     }
 }
 
-// The parts' names, each in 10 bytes.
-fn tell_name(part: usize) {
-    let names = b"\
-        none      \
-        satellite \
-        day       \
-        timeline  \
-        band      \
-        area      \
-        columns   \
-        total     \
-        lines     \
-        segment   \
-        order     \
-        take      \
-        entries   \
-        byte      \
-        bytes     \
-        strip     \
-        leader    \
-        line      \
-        number    ";
-    io::write_all(
-        STDOUT_FILENO,
-        say::trimmed(wire::piece(names, 10 * (part % 19), 10)),
-    );
-}
-
-// Tells of a change, where it is one.
+// Tells of a change, where it is one, and what is done.
 pub(crate) fn tell(x: usize) {
     let part = place(x);
     if part != 0 {
-        tell_name(part);
-        io::write_all(STDOUT_FILENO, b" ");
+        words::tell(part);
         tell_value(part * PART, value(x));
         io::write_all(STDOUT_FILENO, b", ");
     }
+    words::tell(words::DEEDS + x / DEED);
 }

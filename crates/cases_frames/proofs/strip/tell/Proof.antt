@@ -7,10 +7,10 @@ use Rattle.cases_frames.proofs.strip.tell.Statement.{statement}
 use Rattle.cases_frames.proofs.strip.tell.Tie as tie
 
 abbrev Inv-loop : tie.InvT-loop
-Inv-loop s i₀ t4 i-end i = (i ≤ i-end) × (i-end ≡ length s)
+Inv-loop s i₀ i-end i = (i ≤ i-end) × (i-end ≡ length s)
 
 abbrev μ-loop : tie.MeasureT-loop
-μ-loop s i₀ t4 i-end i = i-end - i
+μ-loop s i₀ i-end i = i-end - i
 
 pub tell-spec : {M : Type 1} → statement M
 tell-spec =
@@ -18,13 +18,11 @@ tell-spec =
     (tie.spec
     Inv-loop
     μ-loop
-    (λ c. search needs)
     (λ c κs. search needs)
     (λ c. search needs)
     (λ c. search needs)
     (λ c. search needs)
     (λ c κs. search needs)
-    (λ c. search needs)
     (λ c. search needs)
     (λ c. search needs)
     (λ c. search needs)
