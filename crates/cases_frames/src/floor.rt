@@ -14,15 +14,10 @@ use slate::Slated;
 const LEADER: [u16; 5] = [901, 902, 903, 904, 905];
 
 fn tell(v: Verdict) {
-    match v {
-        Verdict::Fine => words::tell(words::OK),
-        Verdict::Refused(t) => {
-            let why = t.why;
-            words::tell(words::NO);
-            words::number(rules::number_of(why) as usize);
-            words::number(t.block as usize);
-        }
-    }
+    let mut room = [0u8; 64];
+    let n = say::verdict(&mut room, v, b"OK");
+    io::write_all(STDOUT_FILENO, b" ");
+    io::write_all(STDOUT_FILENO, wire::piece(&room, 0, n));
 }
 
 // Tells the answer, how many numbers are in, and whether record and strip are as they were.

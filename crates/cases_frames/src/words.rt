@@ -20,12 +20,8 @@ pub const END: usize = 32;
 
 pub const COMMA: usize = 33;
 
-pub const OK: usize = 34;
-
-pub const NO: usize = 35;
-
 // Each in 10 bytes, of which the blanks at the end are not told.
-const WORDS: [u8; 360] = *b"\
+const WORDS: [u8; 340] = *b"\
     none      \
     satellite \
     day       \
@@ -59,15 +55,13 @@ const WORDS: [u8; 360] = *b"\
     \x20from line\
     \x20as       \
     \n         \
-    ,         \
-    \x20OK       \
-    \x20NO       ";
+    ,         ";
 
 pub(crate) fn tell(i: usize) {
     let words = WORDS;
     io::write_all(
         STDOUT_FILENO,
-        say::trimmed(wire::piece(&words, 10 * (i % 36), 10)),
+        say::trimmed(wire::piece(&words, 10 * (i % 34), 10)),
     );
 }
 
