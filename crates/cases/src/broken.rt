@@ -7,9 +7,8 @@ use crate::plan;
 use crate::set;
 use crate::set::BLOCK;
 use crate::set::PLACE;
-use crate::show;
 
-const BROKEN: [usize; 123] = [
+pub const BROKEN: [usize; 123] = [
     // in both byte orders
     // LENGTH: the bytes the other way round, one more, and in the upper or the lower half of block 10's four bytes
     LITTLE + set::LENGTH + 1 * BLOCK + 6657,
@@ -159,8 +158,3 @@ const BROKEN: [usize; 123] = [
     // TAIL
     LITTLE_FULL + set::BYTES + 1553,
 ];
-
-pub(crate) fn run(buf: &mut [u8]) {
-    let t = BROKEN;
-    show::table(buf, &t);
-}

@@ -7,9 +7,8 @@ use crate::change::LITTLE_FULL;
 use crate::good;
 use crate::set;
 use crate::set::BLOCK;
-use crate::show;
 
-const COUNTED: [usize; 64] = [
+pub const COUNTED: [usize; 64] = [
     // one entry less or more than the length says
     LITTLE_FULL + set::A + 3,
     BIG_FULL + set::A + 5,
@@ -84,8 +83,3 @@ const COUNTED: [usize; 64] = [
     AND + set::DATA + 44000,
     AND + set::BYTES + 45462,
 ];
-
-pub(crate) fn run(buf: &mut [u8]) {
-    let t = COUNTED;
-    show::table(buf, &t);
-}

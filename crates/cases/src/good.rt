@@ -7,7 +7,6 @@ use crate::change::LITTLE_FULL;
 use crate::change::WHAT;
 use crate::plan;
 use crate::set;
-use crate::show;
 
 // Changes of the plan.
 const SATELLITE: usize = plan::SATELLITE * WHAT;
@@ -38,7 +37,7 @@ pub const C: usize = plan::C * WHAT;
 
 const FILL: usize = plan::FILL * WHAT;
 
-const GOOD: [usize; 89] = [
+pub const GOOD: [usize; 89] = [
     // the four files that the others start from
     LITTLE,
     BIG,
@@ -140,8 +139,3 @@ const GOOD: [usize; 89] = [
     LITTLE + set::START + 0x7ff4_0000,
     BIG + set::QUALITY + 129,
 ];
-
-pub(crate) fn run(buf: &mut [u8]) {
-    let t = GOOD;
-    show::table(buf, &t);
-}

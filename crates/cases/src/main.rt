@@ -14,9 +14,9 @@ mod show;
 fn main() {
     // the longest file that the listing reads
     let mut buf = [0u8; 65536];
-    good::run(&mut buf);
-    broken::run(&mut buf);
-    names::run(&mut buf);
-    order::run(&mut buf);
-    entries::run(&mut buf);
+    show::table(&mut buf, &good::GOOD);
+    show::table(&mut buf, &broken::BROKEN);
+    show::table(&mut buf, &names::NAMED);
+    show::table(&mut buf, &order::ORDERED);
+    show::table(&mut buf, &entries::COUNTED);
 }

@@ -4,9 +4,8 @@ use crate::change::LITTLE;
 use crate::plan;
 use crate::set;
 use crate::set::PLACE;
-use crate::show;
 
-const NAMED: [usize; 27] = [
+pub const NAMED: [usize; 27] = [
     // parts that do not agree with the header
     LITTLE + set::NAME_SATELLITE + 9,
     BIG + set::NAME_SATELLITE + 7,
@@ -40,8 +39,3 @@ const NAMED: [usize; 27] = [
     BIG + set::BYTE + 157 * PLACE + 0x30,
     LITTLE + set::BYTE + 241 * PLACE + 0x01,
 ];
-
-pub(crate) fn run(buf: &mut [u8]) {
-    let t = NAMED;
-    show::table(buf, &t);
-}

@@ -7,9 +7,8 @@ use crate::change::LITTLE_FULL;
 use crate::plan;
 use crate::set;
 use crate::set::BLOCK;
-use crate::show;
 
-const ORDERED: [usize; 135] = [
+pub const ORDERED: [usize; 135] = [
     // SHORT before NUMBER, ORDER and LENGTH of its block
     LITTLE + set::NUMBER + 1 * BLOCK + 0,
     AND + set::BYTES + 281,
@@ -159,8 +158,3 @@ const ORDERED: [usize; 135] = [
     BIG_FULL + set::BYTES + 1535,
     LITTLE_FULL + set::BYTES + 1550,
 ];
-
-pub(crate) fn run(buf: &mut [u8]) {
-    let t = ORDERED;
-    show::table(buf, &t);
-}
