@@ -1,8 +1,8 @@
 -- Blanks at the end of a run of bytes, seen from its end.
 -- Assumes nothing.
 use Prim.Native.Nat.{ℕ, zero, suc, _-_, _<_}
-use mathlib.Core.Path.{_≡_, _∙_}
-use mathlib.Core.List.{List, _∷_}
+use mathlib.Core.Path.{_≡_}
+use mathlib.Core.List.{List}
 use native.Mathlib.Omega.{arith}
 use lib.ListN.{length, getD, take, drop}
 use borrow.Author.Tests.{eq-eqb, ne-eqb}
@@ -29,4 +29,4 @@ used-turn s (suc n) b h e k =
 -- as many bytes as there are up to the last that is no blank
 pub trims : (s r : List ℕ) (n : ℕ) → used s (length s) ≡ n → r ≡ take n (drop 0 s) → r ≡ trimmed s
 unfolding trimmed
-trims s r n h e = rw (h) e
+trims s r n h e = rw h e
