@@ -50,11 +50,11 @@ in-checks : (s : List ℕ) → inTable (checks s) ≡ true
 unfolding inTable allowed tables shape entries shape1 fields1 fixed2 fields2 fixed5 fields5 fields7 sums names ends blocks1to4 blocks5to7 blocks8to11 whole checks
 in-checks s = refl
 
-in-opening : (s : _) (size : ℕ) → inTable (opening s size) ≡ true
+pub in-opening : (s : _) (size : ℕ) → inTable (opening s size) ≡ true
 unfolding inTable allowed opening
 in-opening s size = refl
 
-in-offering : (s : _) (marks : _) (size : ℕ) (f : List ℕ) → inTable (offering s marks size f) ≡ true
+pub in-offering : (s : _) (marks : _) (size : ℕ) (f : List ℕ) → inTable (offering s marks size f) ≡ true
 unfolding inTable allowed tables ready placing offering
 in-offering s marks size f = in-append (checks f) _ (in-checks f) refl
 
@@ -164,7 +164,7 @@ of-errors κ a r t p u e =
 
 -- ---- from C: marks, frame and output
 
-in-lent : (m : List ℕ) (rs : List Row) → inTable rs ≡ true → inTable (tables (lent m ∷ rs ∷ [])) ≡ true
+pub in-lent : (m : List ℕ) (rs : List Row) → inTable rs ≡ true → inTable (tables (lent m ∷ rs ∷ [])) ≡ true
 unfolding lent tables inTable allowed
 in-lent m rs h = in-append rs [] h refl
 

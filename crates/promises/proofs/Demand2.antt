@@ -1,26 +1,33 @@
--- Demand 2. `s` is a string of bytes; the words stand in specs/ of tiling (Made), header (Encode, Values, Entries) and writer (Given).
+-- Demand 2. `s` is a string of bytes; the words stand in specs/ of tiling (Made, Lawful), header (Encode, Values, Entries) and writer (Given).
 -- Assumes nothing.
-use mathlib.Core.Path.{_≡_, sym, _∙_}
+use mathlib.Core.Path.{_≡_, refl, sym, ap, _∙_}
 use mathlib.Core.Logic.{_↔_}
-use mathlib.Core.List.{List, _++_}
+use mathlib.Core.List.{List, [], _∷_, _++_}
 use Prim.Native.Nat.{ℕ, _≤_}
-use lib.ListN.{length, drop}
+use lib.ListN.{length, take, drop}
 use denote.Ref.{now}
 use Rattle.wire.specs.Wire.{Bytes}
 use Rattle.rules.specs.Rules.{fine, paper}
 use Rattle.rules.specs.declared.Verdict.{Verdict}
-use Rattle.header.specs.Places.{lengthOf}
+use Rattle.rules.specs.declared.Verdict.the-variants.{Fine}
+use Rattle.header.specs.Places.{headerLength, lengthOf, dataLength}
 use Rattle.header.specs.Values.{headerOf}
 use Rattle.header.specs.declared.Header.{Header}
 use Rattle.header.specs.Encode.{Entries, encode}
 use Rattle.header.specs.Entries.{entriesOf}
+use Rattle.accept.specs.declared.Answer.{Answer}
 use Rattle.accept.specs.declared.Answer.the-variants.{Accepted}
 use Rattle.accept.specs.Answers.{factsOf, paperAnswer}
 use Rattle.accept.proofs.Paper.{paperAnswer-one}
 use Rattle.accept.proofs.accept.Reads as accept
 use Rattle.writer.specs.Given.{ruled, Wrote}
-use Rattle.tiling.specs.Made.{Made, IsAccepted, Readable, Writable}
+use Rattle.writer.proofs.Good.{good-is, good-of}
+use Rattle.tiling.specs.Lawful.{Lawful}
+use Rattle.tiling.specs.Made.{Fit, Made, IsAccepted, Readable, Writable}
+use Rattle.tiling.proofs.Lawful.{lawful-is, lawful-of, lawful-exactly}
 use Rattle.tiling.proofs.Exactly as tiling
+use Rattle.promises.specs.Calls.{Answered, answered, Read, Written}
+use Rattle.promises.proofs.Calls.{fine-is, got, fine-read, wrote}
 
 -- accepted exactly when there are good values, entries and counts that make it
 pub exactly : (s : List ℕ) → Bytes s → IsAccepted s ↔ Made s
@@ -46,7 +53,7 @@ taken = tiling.takes-back
 
 -- whatever call of the writer is given them, with room: it says nothing is wrong, and puts the header there
 pub rewrites : (s : List ℕ) → Bytes s → IsAccepted s → (l : List ℕ) (r : Verdict) (out : List ℕ) → lengthOf s ≤ length l → Wrote l (headerOf s) (entriesOf s) r out
-    → (paper r ≡ fine) × (out ≡ encode (headerOf s) (entriesOf s) ++ drop (length (encode (headerOf s) (entriesOf s))) l)
+    → (paper r ≡ fine) × (out ≡ take (lengthOf s) s ++ drop (lengthOf s) l)
 rewrites = tiling.rewrites
 
 -- what was written, with its counts after it, reads back as the values and entries
@@ -56,3 +63,51 @@ forth = tiling.reads-back
 -- the writer takes exactly the values and entries that a reader could have read
 pub takes-exactly : (v : Header) (e : Entries) → Writable v e ↔ Readable v e
 takes-exactly = tiling.takes-exactly
+
+-- and these are the ones that document 01 calls for
+pub lawful : (v : Header) (e : Entries) → Fit v e → (ruled v e (length (encode v e)) ≡ fine) ↔ Lawful v e
+lawful = lawful-exactly
+
+-- ---- of the functions' own answers (Calls: `Read`, `Written`, `Answered`)
+
+-- Read, then written: of a file of which `read` says Fine, the other readers do, and the writer, given what the four gave and an output with room, says Fine, puts
+-- the file's own header there, byte for byte, and leaves the rest of the output.
+pub read-written : {s l out : List ℕ} {w r : Verdict} {ws : List Verdict} {v : Header} {e : Entries} → Bytes s
+    → Read s w ws v e → w ≡ Fine → Written l v e r out → lengthOf s ≤ length l
+    → (ws ≡ Fine ∷ Fine ∷ Fine ∷ []) × (r ≡ Fine) × (out ≡ take (lengthOf s) s ++ drop (lengthOf s) l)
+read-written {s} {l} {out} {r = r} b rd q wr room =
+    let g = fine-read rd q in
+    let h = got rd g in
+    let k = tiling.rewrites s b (tiling.fine-accepted s g) l r out room (rw (h .header, h .entries) at (wrote wr)) in
+    (h .others, fine-is r (k .0), k .1)
+
+-- Written, then read: of values and entries of their types of which the writer says Fine, what it wrote, with counts of the right length after it, is accepted, and the
+-- four readers give back exactly those values and entries.
+module _ {l out : List ℕ} {v : Header} {e : Entries} (fit : Fit v e) (wr : Written l v e Fine out)
+    (counts : List ℕ) (size : length counts ≡ dataLength (v .block2 .columns) (v .block2 .lines)) where
+  abbrev file : List ℕ
+  file = take (headerLength (length (e .lines8)) (length (e .lines9)) (length (e .lines10))) out ++ counts
+
+  made : (m : Made file) × (m .v ≡ v) × (m .e ≡ e)
+  unfolding paper
+  made = tiling.writes-made l v e Fine out fit (wrote wr) refl counts size
+
+  pub written-accepted : {x : Answer} → Answered file x → x ≡ Accepted (factsOf file)
+  written-accepted (answered κ a x t p i) = answers κ a x t p (rw i (made .0)) ∙ rw i
+
+  pub written-read : {w : Verdict} {ws : List Verdict} {v′ : Header} {e′ : Entries} → Read file w ws v′ e′
+      → (w ≡ Fine) × (ws ≡ Fine ∷ Fine ∷ Fine ∷ []) × (v′ ≡ v) × (e′ ≡ e)
+  written-read rd =
+      let h = got rd (tiling.accepted-fine file (tiling.made-accepted file (made .0))) in
+      let k = tiling.reads-back file (made .0) in
+      (h .first, h .others, h .header ∙ k .0 ∙ made .1, h .entries ∙ k .1 ∙ made .2)
+
+-- The writer says Fine exactly of lawful values and entries that its output has room for.
+pub writes-exactly : {l out : List ℕ} {v : Header} {e : Entries} {r : Verdict} → Fit v e → Written l v e r out
+    → (r ≡ Fine) ↔ (Lawful v e × (headerLength (length (e .lines8)) (length (e .lines9)) (length (e .lines10)) ≤ length l))
+unfolding paper
+writes-exactly {l} {v = v} {e = e} {r = r} fit wr =
+    let w = wrote wr in (
+      λ q. let g = good-is v e (length l) (sym (w .says) ∙ ap paper q) in (lawful-is v e fit (g .0), g .1),
+      λ h. fine-is r (w .says ∙ good-of v e (length l) (lawful-of v e (h .0)) (h .1)),
+    )

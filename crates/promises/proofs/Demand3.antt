@@ -19,6 +19,11 @@ use Rattle.assembly.specs.History.{File, alreadies, placed, bears, came, Apart,
 use Rattle.assembly.specs.Runs.{Call, files, rulings, Ran, Asked}
 use Rattle.assembly.proofs.Demand.{apart-agree}
 use Rattle.assembly.proofs.Runs as runs
+use Rattle.plugin.specs.declared.strips.HsdSlate.{HsdSlate}
+use Rattle.plugin.specs.Strips.{slateIn, shownRuling, marksIn}
+use Rattle.promises.specs.Runs.{Offer, filesOf, RanC, AskedC}
+use Rattle.promises.proofs.Runs.{Lifted, lifted, Copied}
+use Rattle.promises.proofs.Runs as from
 
 -- a refused offer leaves the record and every count of the frame
 pub leaves : (κ : _) (a : _) (r : _) (t : _) (u : Turned) → offering.Post κ a r t → paper (r .verdict) ≡ refused u
@@ -75,3 +80,40 @@ module _ (s : Slate) (ok : goodSlate s ≡ true) (lent : List ℕ) (fits : lengt
     -- and as many are told ALREADY, whatever copies there are
     pub same-total : alreadies (rulings cs) ≡ alreadies (rulings ds)
     same-total = runs.same-total s ok lent fits run other fits' run' order
+
+-- ---- from C. `RanC` says that the calls were made: of `hsd_open`, which was not refused, then of `hsd_offer`, each with that same slate and the
+-- marks and the frame as the call before left them.
+module _ {s : HsdSlate} {lent : List ℕ} {cs : List Offer} {marks frame : List ℕ} (run : RanC s lent cs marks frame) where
+  -- it is a run as above, over the same files: the frame is the same, the marks are its record, and the answers its verdicts; the slate is good and the strip fits
+  pub from-c : Lifted s lent cs marks frame
+  from-c = lifted run
+
+  -- so that what is said above holds of it: of each answer, the marks and the lines
+  pub answer-from-c : Apart (slateIn s) (filesOf cs) → (c : Offer) → List·Memᴰ c cs → c .answer ≡ shownRuling (alone (slateIn s) (c .file))
+  answer-from-c = from.answer-c run
+
+  pub coming-from-c : (k : ℕ) → marked (marksIn marks) k ≡ came (slateIn s) k (filesOf cs)
+  coming-from-c = from.numbers-c run
+
+  module _ (line : ℕ) (some : 1 ≤ line) (most : line ≤ frameLines (slateIn s)) where
+    pub line-came-from-c : Agree (slateIn s) (filesOf cs) → (f : File) → List·Memᴰ f (filesOf cs) → bears (slateIn s) (coverOf (slateIn s) line) f ≡ true
+        → lineIn (slateIn s) frame line ≡ lineIn (slateIn s) (countsOf f) (withinOf (slateIn s) line)
+    line-came-from-c = from.line-came-c run line some most
+
+    pub line-missing-from-c : came (slateIn s) (coverOf (slateIn s) line) (filesOf cs) ≡ false → lineIn (slateIn s) frame line ≡ replicate (s .columns) 65534
+    line-missing-from-c = from.line-missing-c run line some most
+
+    -- and of a line that C asks for: it is the part that the library gives, copied where there is room
+    pub asked-from-c : {leader out out' : List ℕ} {n : ℕ} → AskedC s marks frame leader line out n out' → Copied (slateIn s) (from-c .newest) frame leader line out n out'
+    asked-from-c = from.copied from-c
+
+  -- the same files in any other order, over any strip that was not refused: each is answered the same, and marks and frame are the same
+  module _ {other : List ℕ} {ds : List Offer} {marks' frame' : List ℕ} (run' : RanC s other ds marks' frame') (order : List·Permᴰ (filesOf cs) (filesOf ds)) where
+    pub same-answers-from-c : Apart (slateIn s) (filesOf cs) → (c d : Offer) → List·Memᴰ c cs → List·Memᴰ d ds → c .file ≡ d .file → c .answer ≡ d .answer
+    same-answers-from-c = from.same-answers-c run run' order
+
+    pub same-marks-from-c : marks ≡ marks'
+    same-marks-from-c = from.same-marks-c run run' order
+
+    pub same-frame-from-c : Agree (slateIn s) (filesOf cs) → frame ≡ frame'
+    same-frame-from-c = from.same-frame-c run run' order

@@ -3,5 +3,7 @@ pub mod OneAnswer
 pub mod Cases
 pub mod Refusals
 pub mod Demand1
+pub mod Calls
 pub mod Demand2
+pub mod Runs
 pub mod Demand3

@@ -2,3 +2,5 @@
 pub mod Answers
 pub mod Cases
 pub mod Blocks
+pub mod Calls
+pub mod Runs

@@ -4,7 +4,8 @@ use mathlib.Core.Logic.{_↔_}
 use mathlib.Core.List.{List, _++_}
 use Prim.Native.Nat.{ℕ, zero, suc, _+_, _*_, _-_, _≤_, _<_, _^_}
 use native.Mathlib.Omega.{arith}
-use lib.ListN.{length, drop, replicate, length-drop, length-replicate}
+use lib.ListN.{length, take, drop, replicate, length-drop, length-replicate}
+use lib.Seq.{take-at}
 use Rattle.wire.specs.Wire.{Bytes, span, num}
 use Rattle.wire.proofs.Spans.{length-span}
 use Rattle.wire.proofs.Rows.{tab-lt}
@@ -27,6 +28,7 @@ use Rattle.accept.proofs.Tables.{Accepted, accepted, accepting}
 use Rattle.tiling.proofs.Back as back
 use Rattle.tiling.proofs.Forth as forth
 use Rattle.tiling.proofs.Eight.{append, of-zeros, encoded}
+use Rattle.tiling.proofs.Lawful.{lawful-is, lawful-of, lawful-exactly}
 
 bytes-span : (s : List ℕ) → Bytes s → (at n : ℕ) → Bytes (span s at n)
 unfolding span
@@ -132,13 +134,12 @@ module _ (s : List ℕ) (b : Bytes s) where
 
   pub made : Accepted s → Made s
   made h =
-      let n = forth.long-header (headerOf s) (entriesOf s) (drop (lengthOf s) s) fit (good h) (counts h) in
       record {
         v = headerOf s;
         e = entriesOf s;
         counts = drop (lengthOf s) s;
         fit = fit;
-        good = good-of (headerOf s) (entriesOf s) _ (good h) (omega (arith, n));
+        lawful = lawful-is (headerOf s) (entriesOf s) fit (good h);
         is = sym (back.back s b h);
         size = counts h;
       }
@@ -148,15 +149,15 @@ says-fine : (s : List ℕ) (f : Facts) → answerOf s ≡ says f → judge fine 
 unfolding answerOf
 says-fine s f e = said (judge fine (checks s)) (factsOf s) f e .0
 
-accepted-fine : (s : List ℕ) → IsAccepted s → judge fine (checks s) ≡ fine
+pub accepted-fine : (s : List ℕ) → IsAccepted s → judge fine (checks s) ≡ fine
 accepted-fine s e = says-fine s (factsOf s) e
 
-fine-accepted : (s : List ℕ) → judge fine (checks s) ≡ fine → IsAccepted s
+pub fine-accepted : (s : List ℕ) → judge fine (checks s) ≡ fine → IsAccepted s
 unfolding answerOf reply
 fine-accepted s e = rw e
 
 only : (s : List ℕ) → Made s → judge fine (checks s) ≡ fine
-only s m = accepting s (subst⁻¹ Accepted (m .is) (forth.accepted-back (m .v) (m .e) (m .counts) (m .fit) (good-is (m .v) (m .e) _ (m .good) .0) (m .size)))
+only s m = accepting s (subst⁻¹ Accepted (m .is) (forth.accepted-back (m .v) (m .e) (m .counts) (m .fit) (lawful-of (m .v) (m .e) (m .lawful)) (m .size)))
 
 pub made-accepted : (s : List ℕ) → Made s → IsAccepted s
 made-accepted s m = fine-accepted s (only s m)
@@ -173,6 +174,16 @@ says-made s b f e = made s b (accepted s (says-fine s f e))
 pub writes-back : (s : List ℕ) → Bytes s → IsAccepted s → encode (headerOf s) (entriesOf s) ++ drop (lengthOf s) s ≡ s
 writes-back s b e = back.back s b (accepted s (accepted-fine s e))
 
+-- so that its header is what was written
+pub long-back : (s : List ℕ) → Bytes s → IsAccepted s → length (encode (headerOf s) (entriesOf s)) ≡ lengthOf s
+long-back s b e =
+    let h = accepted s (accepted-fine s e) in
+    forth.long-header (headerOf s) (entriesOf s) (drop (lengthOf s) s) (fit s b) (good s b h) (counts s b h) ∙ long-entries s b
+
+pub header-back : (s : List ℕ) → Bytes s → IsAccepted s → encode (headerOf s) (entriesOf s) ≡ take (lengthOf s) s
+header-back s b e =
+    sym (take-at (encode (headerOf s) (entriesOf s)) (drop (lengthOf s) s) (lengthOf s) (long-back s b e)) ∙ ap (take (lengthOf s)) (writes-back s b e)
+
 -- and the writer takes it
 pub takes-back : (s : List ℕ) → Bytes s → IsAccepted s → (n : ℕ) → lengthOf s ≤ n → ruled (headerOf s) (entriesOf s) n ≡ fine
 takes-back s b e n h =
@@ -181,8 +192,8 @@ takes-back s b e n h =
 -- what is read of a file is what it was made of
 pub reads-back : (s : List ℕ) (m : Made s) → (headerOf s ≡ m .v) × (entriesOf s ≡ m .e)
 reads-back s m = (
-  ap headerOf (m .is) ∙ forth.header-back (m .v) (m .e) (m .counts) (m .fit) (good-is (m .v) (m .e) _ (m .good) .0) (m .size),
-  ap entriesOf (m .is) ∙ forth.entries-back (m .v) (m .e) (m .counts) (m .fit) (good-is (m .v) (m .e) _ (m .good) .0) (m .size),
+  ap headerOf (m .is) ∙ forth.header-back (m .v) (m .e) (m .counts) (m .fit) (lawful-of (m .v) (m .e) (m .lawful)) (m .size),
+  ap entriesOf (m .is) ∙ forth.entries-back (m .v) (m .e) (m .counts) (m .fit) (lawful-of (m .v) (m .e) (m .lawful)) (m .size),
 )
 
 -- the writer takes exactly the values that a reader could have read
@@ -190,7 +201,7 @@ writable-readable : (v : Header) (e : Entries) → Writable v e → Readable v e
 writable-readable v e w =
     let n = dataLength (v .block2 .columns) (v .block2 .lines) in
     let s = encode v e ++ replicate n 0 in
-    let m : Made s = record { v = v; e = e; counts = replicate n 0; fit = w .fit; good = w .good; is = refl; size = length-replicate n 0 } in
+    let m : Made s = record { v = v; e = e; counts = replicate n 0; fit = w .fit; lawful = lawful-exactly v e (w .fit) .0 (w .good); is = refl; size = length-replicate n 0 } in
     record {
       file = s;
       bytes = append (encode v e) (replicate n 0) (encoded v e (w .fit)) (of-zeros n);
@@ -202,18 +213,32 @@ writable-readable v e w =
 readable-writable : (v : Header) (e : Entries) → Readable v e → Writable v e
 unfolding headerOf entriesOf made
 readable-writable v e r =
-    rw (← r .header, ← r .entries) record {
-      fit = fit (r .file) (r .bytes);
-      good = made (r .file) (r .bytes) (accepted (r .file) (accepted-fine (r .file) (r .accepted))) .good;
-    }
+    let m = made (r .file) (r .bytes) (accepted (r .file) (accepted-fine (r .file) (r .accepted))) in
+    rw (← r .header, ← r .entries) record { fit = m .fit; good = lawful-exactly (m .v) (m .e) (m .fit) .1 (m .lawful) }
 
 pub takes-exactly : (v : Header) (e : Entries) → Writable v e ↔ Readable v e
 takes-exactly v e = (writable-readable v e, readable-writable v e)
 
--- whatever call of the writer is given an accepted file's values and entries, with room, puts the file's header there
+-- whatever call of the writer is given an accepted file's values and entries, with room, puts the file's own header there
 pub rewrites : (s : List ℕ) → Bytes s → IsAccepted s → (l : List ℕ) (r : Verdict) (out : List ℕ) → lengthOf s ≤ length l → Wrote l (headerOf s) (entriesOf s) r out
-    → (paper r ≡ fine) × (out ≡ encode (headerOf s) (entriesOf s) ++ drop (length (encode (headerOf s) (entriesOf s))) l)
+    → (paper r ≡ fine) × (out ≡ take (lengthOf s) s ++ drop (lengthOf s) l)
 unfolding after
 rewrites s b e l r out h w =
     let g = takes-back s b e (length l) h in
-    (w .says ∙ g, w .leaves ∙ rw g)
+    (w .says ∙ g, w .leaves ∙ rw (g, long-back s b e, header-back s b e))
+
+-- and what any call of the writer writes of values and entries of their types, with counts of the right length after it, is made of them
+pub writes-made : (l : List ℕ) (v : Header) (e : Entries) (r : Verdict) (out : List ℕ) → Fit v e → Wrote l v e r out → paper r ≡ fine
+    → (counts : List ℕ) → length counts ≡ dataLength (v .block2 .columns) (v .block2 .lines)
+    → (m : Made (take (headerLength (length (e .lines8)) (length (e .lines9)) (length (e .lines10))) out ++ counts)) × (m .v ≡ v) × (m .e ≡ e)
+unfolding after
+writes-made l v e r out f w q counts size =
+    let n = headerLength (length (e .lines8)) (length (e .lines9)) (length (e .lines10)) in
+    let g = sym (w .says) ∙ q in
+    let good = good-is v e (length l) g .0 in
+    let o : out ≡ encode v e ++ drop (length (encode v e)) l = w .leaves ∙ rw g in
+    let t : take n out ≡ encode v e = ap (take n) o ∙ take-at (encode v e) _ n (forth.long-header v e counts f good size) in (
+      record { v = v; e = e; counts = counts; fit = f; lawful = lawful-is v e f good; is = ap (λ (h : List ℕ). h ++ counts) t; size = size },
+      refl,
+      refl,
+    )

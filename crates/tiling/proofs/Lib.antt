@@ -3,4 +3,5 @@ pub mod Back
 pub mod Inside
 pub mod Forth
 pub mod Eight
+pub mod Lawful
 pub mod Exactly

@@ -1,2 +1,3 @@
 -- The words of demand 2.
+pub mod Lawful
 pub mod Made

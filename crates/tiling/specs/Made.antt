@@ -17,6 +17,7 @@ use Rattle.header.specs.Entries.{entriesOf}
 use Rattle.rules.specs.Rules.{fine, says}
 use Rattle.accept.specs.Answers.{factsOf, answerOf}
 use Rattle.writer.specs.Given.{ruled}
+use Rattle.tiling.specs.Lawful.{Lawful}
 
 -- a number of w bytes
 abbrev pub Number : ℕ → ℕ → Type 0
@@ -96,13 +97,13 @@ pub record Fit (v : Header) (e : Entries) : Type 0 where
   pub lines10 : Numbers 2 (e .lines10)
   pub pixels : Numbers 2 (e .pixels)
 
--- s is the header of values and entries that the writer takes, and then counts of the right length
+-- s is the header of lawful values and entries of their types, and then counts of the right length
 pub record Made (s : List ℕ) : Type 0 where
   pub v : Header
   pub e : Entries
   pub counts : List ℕ
   pub fit : Fit v e
-  pub good : ruled v e (length (encode v e)) ≡ fine
+  pub lawful : Lawful v e
   pub is : s ≡ encode v e ++ counts
   pub size : length counts ≡ dataLength (v .block2 .columns) (v .block2 .lines)
 

@@ -1,0 +1,334 @@
+-- A run of C's calls is a run of the library's. Assumes nothing.
+use mathlib.Core.Path.{_≡_, refl, sym, ap, _∙_}
+use mathlib.Core.Bool.{Bool, true, false, and-eq-true-iff}
+use mathlib.Core.List.{List, [], _∷_, _++_, map, List·Memᴰ, List·Memᴰ·head, List·Memᴰ·tail, List·Permᴰ}
+use Prim.Native.Nat.{ℕ, zero, suc, _+_, _≤_, _<_}
+use native.Mathlib.Numerals.{add-one}
+use native.Mathlib.Omega.{arith}
+use lib.ListN.{length, getD, drop, length-append, length-replicate, length-set, List·getD-append, replicate}
+use lib.Seq.{ext-getD, getD-at}
+use lib.Dec.{eqb, leb}
+use borrow.Author.Tests.{leb-true, leb-false, le-leb, eq-eqb, eqb-true, eqb-false, ne-eqb, lt-leb}
+use denote.Ref.{now}
+use Rattle.wire.proofs.Rows.{length-tab, getD-tab}
+use Rattle.rules.specs.Rules.{Ruling, Turned, turned, numberOf, tables, fine, refused, paper, after}
+use Rattle.rules.proofs.Judge.{exactly, each-is}
+use Rattle.rules.proofs.Paper.{named, refusalOf, verdictOf}
+use Rattle.slate.specs.declared.Slate.{Slate}
+use Rattle.slate.specs.Cut.{coverOf}
+use Rattle.slate.specs.Slates.{goodSlate, frameLines, frameSize}
+use Rattle.frame.specs.Counts.{countsOf}
+use Rattle.frame.specs.declared.Record.{Record}
+use Rattle.frame.specs.Records.{oneOf, noMarks, marked, mark}
+use Rattle.frame.specs.Frames as frames
+use Rattle.frame.specs.Lines.{lineOf}
+use Rattle.assembly.specs.History.{File, bears, came, Apart, Agree, alone, lineIn, withinOf}
+use Rattle.assembly.specs.Runs as library
+use Rattle.assembly.proofs.Demand.{apart-perm}
+use Rattle.assembly.proofs.Runs as runs
+use Rattle.tiling.proofs.Lawful.{below}
+use Rattle.plugin.specs.declared.strips.HsdSlate.{HsdSlate}
+use Rattle.plugin.specs.declared.strips.HsdAnswer.{HsdAnswer}
+use Rattle.plugin.specs.Strips.{slateIn, shownRuling, bits, goodMarks, lent, flags, marksIn, marksOut, openedC, offeredC, openMarks, openStrip, offerMarks, lineC, copiedOf, copyOf}
+use Rattle.plugin.proofs.Lending.{lent-good, offer-strip}
+use Rattle.promises.specs.Blocks.{allowed}
+use Rattle.promises.specs.Runs.{Offer, filesOf, answersOf, RanC, opened, offered, AskedC, asked}
+use Rattle.promises.proofs.Refusals.{refused-in}
+use Rattle.promises.proofs.Demand1.{in-opening, in-offering, in-lent}
+
+-- ---- marks out and in again
+
+length-flags : (m : List ℕ) (n : ℕ) → length (flags m n) ≡ n
+unfolding flags
+length-flags m zero = refl
+length-flags m (suc n) = rw (length-append, length-flags m n, add-one)
+
+getD-flags : (m : List ℕ) (n i : ℕ) → i < n → getD (flags m n) i false ≡ eqb (getD m i 0) 1
+unfolding flags
+getD-flags m zero i h = absurd (omega arith)
+getD-flags m (suc n) i h = go (eqb i n) refl (getD-flags m n i)
+  where
+    go : (b : Bool) → eqb i n ≡ b → (i < n → getD (flags m n) i false ≡ eqb (getD m i 0) 1) → getD (flags m n ++ (eqb (getD m n 0) 1 ∷ [])) i false ≡ eqb (getD m i 0) 1
+    go true e r = rw (eqb-true i n e) (getD-at (flags m n) _ [] false n (length-flags m n))
+    go false e r =
+        let d = eqb-false i n e in
+        let l : i < length (flags m n) = rw (length-flags m n) (omega arith) in
+        List·getD-append (flags m n) _ false i l ∙ r (omega arith)
+
+one-back : (b : Bool) → eqb (oneOf b) 1 ≡ b
+one-back true = refl
+one-back false = refl
+
+pub marks-back : (marks : List Bool) → length marks ≡ 99 → marksIn (marksOut marks) ≡ marks
+marks-back marks h =
+    ext-getD false (marksIn (marksOut marks)) marks (length-flags (marksOut marks) 99 ∙ sym h)
+    (λ i l. let k : i < 99 = rw (length-flags (marksOut marks) 99) at l in
+    getD-flags (marksOut marks) 99 i k ∙ ap (λ (x : ℕ). eqb x 1) (getD-tab (λ k. oneOf (getD marks k false)) 99 i k) ∙ one-back (getD marks i false))
+
+one-most : (b : Bool) → oneOf b ≤ 1
+one-most true = omega arith
+one-most false = omega arith
+
+bits-out : (marks : List Bool) (k n : ℕ) → k + n ≤ 99 → bits (marksOut marks) k n ≡ true
+bits-out marks k zero h = refl
+bits-out marks k (suc n) h =
+    let e = getD-tab (λ i. oneOf (getD marks i false)) 99 k (omega arith) in
+    rw (e, le-leb (oneOf (getD marks k false)) 1 (one-most (getD marks k false))) (bits-out marks (k + 1) n (omega arith))
+
+good-out : (marks : List Bool) → goodMarks (marksOut marks) ≡ true
+unfolding goodMarks
+good-out marks = and-eq-true-iff _ _ .1 (eq-eqb _ 99 (length-tab (λ k. oneOf (getD marks k false)) 99), bits-out marks 0 99 (omega arith))
+
+-- ---- a ruling of the paper's table is some verdict's
+
+-- no number above 17 is the table's, nor is 0
+none-above : (n b : ℕ) → 17 < n → allowed (turned n b) ≡ false
+unfolding allowed
+none-above n b h =
+    rw (
+      ne-eqb n 1 (λ e. omega arith),
+      ne-eqb n 2 (λ e. omega arith),
+      ne-eqb n 4 (λ e. omega arith),
+      ne-eqb n 5 (λ e. omega arith),
+      ne-eqb n 6 (λ e. omega arith),
+      ne-eqb n 7 (λ e. omega arith),
+      ne-eqb n 11 (λ e. omega arith),
+      ne-eqb n 12 (λ e. omega arith),
+      le-leb 13 n (omega arith),
+      lt-leb n 17 h,
+      ne-eqb n 3 (λ e. omega arith),
+      le-leb 8 n (omega arith),
+      lt-leb n 10 (omega arith),
+    )
+
+number-back : (n b : ℕ) → allowed (turned n b) ≡ true → numberOf (named n) ≡ n
+unfolding allowed named
+number-back n b e = go (leb n 17) refl
+  where
+    go : (t : Bool) → leb n 17 ≡ t → numberOf (named n) ≡ n
+    go true h = below (λ k. allowed (turned k b) ≡ true → numberOf (named k) ≡ k) 18 n (let l = leb-true n 17 h in omega arith) (
+      λ _. refl,
+      (
+        λ _. refl,
+        (
+          λ _. refl,
+          (
+            λ _. refl,
+            (
+              λ _. refl,
+              (
+                λ _. refl,
+                (
+                  λ _. refl,
+                  (
+                    λ _. refl,
+                    (
+                      λ _. refl,
+                      (
+                        λ _. refl,
+                        (
+                          λ _. refl,
+                          (
+                            λ _. refl,
+                            (
+                              λ _. refl,
+                              (
+                                λ _. refl,
+                                (
+                                  λ _. refl,
+                                  (
+                                    λ _. refl,
+                                    (
+                                      λ _. refl,
+                                      (λ z. absurd (let q : _≡_ {A = ℕ} 0 1 = cc in omega arith), tt),
+                                    ),
+                                  ),
+                                ),
+                              ),
+                            ),
+                          ),
+                        ),
+                      ),
+                    ),
+                  ),
+                ),
+              ),
+            ),
+          ),
+        ),
+      ),
+    ) e
+    go false h = absurd (let z : true ≡ false = sym e ∙ none-above n b (leb-false n 17 h) in let q : _≡_ {A = ℕ} 0 1 = cc in omega arith)
+
+paper-back : (r : Ruling) → ((u : Turned) → r ≡ refused u → allowed u ≡ true) → paper (verdictOf r) ≡ r
+unfolding paper verdictOf refusalOf
+paper-back fine h = refl
+paper-back (refused (turned n b)) h = rw (number-back n b (h (turned n b) refl))
+
+-- what is shown as no refusal is none
+shown-fine : (r : Ruling) → ((u : Turned) → r ≡ refused u → allowed u ≡ true) → shownRuling r .refusal ≡ 0 → r ≡ fine
+unfolding shownRuling allowed
+shown-fine fine h e = refl
+shown-fine (refused (turned n b)) h e = absurd (let z : allowed (turned 0 b) ≡ true = rw e at (h (turned n b) refl) in let q : _≡_ {A = ℕ} 0 1 = cc in omega arith)
+
+-- ---- the lifting
+
+-- of a run of C's calls: a run of the library's, with the same files and frame, whose record is the marks and whose verdicts are the answers
+pub record Lifted (s : HsdSlate) (lent : List ℕ) (cs : List Offer) (marks frame : List ℕ) : Type 0 where
+  pub calls : List library.Call
+  pub newest : Record
+  pub ran : library.Ran (slateIn s) lent calls newest frame
+  pub files : library.files calls ≡ filesOf cs
+  pub answers : map shownRuling (library.rulings calls) ≡ answersOf cs
+  pub is : marks ≡ marksOut (newest .marks)
+  pub long : length (newest .marks) ≡ 99
+  -- opening was not refused, so that slate and strip were good
+  pub good : goodSlate (slateIn s) ≡ true
+  pub fits : length lent ≡ frameSize (slateIn s)
+
+kept : (r : Ruling) (marks new : List Bool) → after r (marksOut marks) (marksOut (after r marks new)) ≡ marksOut (after r marks new)
+unfolding after
+kept fine marks new = refl
+kept (refused u) marks new = refl
+
+long-after : (r : Ruling) (marks : List Bool) (k : ℕ) → length (after r marks (mark marks k)) ≡ length marks
+unfolding after
+long-after fine marks k = simp length-set
+long-after (refused u) marks k = refl
+
+pub lifted : {s : HsdSlate} {lent : List ℕ} {cs : List Offer} {marks frame : List ℕ} → RanC s lent cs marks frame → Lifted s lent cs marks frame
+unfolding openMarks openStrip offerMarks frames.opening frames.recordAfter verdictOf paper after
+lifted (opened κ a r t p es el z) =
+    let strip = now (a .1 .1 .0) in
+    let m = now (a .1 .0) in
+    let slate = slateIn (a .0) in
+    let rows = frames.opening slate (length strip) in
+    let in-rows = refused-in (tables (lent m ∷ rows ∷ [])) (in-lent m rows (in-opening slate (length strip))) in
+    let good : openedC (a .0) m (length strip) ≡ fine = shown-fine _ in-rows (rw (p .0) at z) in
+    let each = each-is (lent m ∷ rows ∷ []) (exactly (tables (lent m ∷ rows ∷ [])) .0 good) in
+    record {
+      calls = [];
+      newest = record { marks = noMarks };
+      ran = library.opened (κ .1) (slate, (a .1 .1 .0, tt)) (record { verdict = verdictOf fine; rec = record { marks = noMarks } }) (slate, (t .1 .1 .0, tt))
+          (sym (exactly rows .1 (each .1 .0)), (refl, p .1 .1 ∙ rw good)) (ap slateIn es) el;
+      files = refl;
+      answers = refl;
+      is = p .1 .0 ∙ rw good;
+      long = length-replicate 99 false;
+      good = rw es at (each .1 .0 .0);
+      fits = sym (ap length el) ∙ eqb-true (length strip) (frameSize slate) (each .1 .0 .1 .0) ∙ ap (λ (s : HsdSlate). frameSize (slateIn s)) es;
+    }
+lifted (offered run κ a r t p es em ef) =
+    let l = lifted run in
+    let marks = l .newest .marks in
+    let m = now (a .1 .0) in
+    let strip = now (a .1 .1 .0) in
+    let f = now (a .1 .1 .1 .0) in
+    let slate = slateIn (a .0) in
+    let ruling = frames.offered slate marks (length strip) f in
+    let out : m ≡ marksOut marks = em ∙ l .is in
+    let back : marksIn m ≡ marks = ap marksIn out ∙ marks-back marks (l .long) in
+    let good : goodMarks m ≡ true = rw out (good-out marks) in
+    let same : offeredC (a .0) m (length strip) f ≡ ruling =
+    lent-good m (frames.offering slate (marksIn m) (length strip) f) good ∙ ap (λ (k : List Bool). frames.offered slate k (length strip) f) back in
+    let said : paper (verdictOf ruling) ≡ ruling = paper-back ruling (refused-in (frames.offering slate marks (length strip) f) (in-offering slate marks (length strip) f)) in
+    let after-it = frames.recordAfter slate marks (length strip) f in
+    record {
+      calls = record { file = f; verdict = verdictOf ruling } ∷ l .calls;
+      newest = record { marks = after-it };
+      ran = library.offered (l .ran) (κ .1) (slate, (l .newest, (a .1 .1 .0, (a .1 .1 .1 .0, tt)))) (record { verdict = verdictOf ruling; rec = record { marks = after-it } })
+          (slate, (l .newest, (t .1 .1 .0, (t .1 .1 .1 .0, tt))))
+          (said, (refl, p .1 .1 ∙ sym (offer-strip (a .0) m good strip f) ∙ ap (λ (k : List Bool). frames.frameAfter slate k strip f) back)) (ap slateIn es) refl ef;
+      files = ap (λ (fs : List File). f ∷ fs) (l .files);
+      answers = λ i. (ap shownRuling (said ∙ sym same) ∙ sym (p .0)) i ∷ l .answers i;
+      is = p .1 .0 ∙ (λ i. after (same i) (out i) (marksOut (frames.recordAfter slate (back i) (length strip) f))) ∙ kept ruling marks _;
+      long = long-after ruling marks _ ∙ l .long;
+      good = l .good;
+      fits = l .fits;
+    }
+
+-- ---- what is said of the library's runs, said of C's
+
+all-alone : (s : Slate) (cs : List library.Call) → ((c : library.Call) → List·Memᴰ c cs → paper (c .verdict) ≡ alone s (c .file)) → library.rulings cs ≡ map (alone s) (library.files cs)
+all-alone s [] h = refl
+all-alone s (c ∷ cs) h = λ i. h c (List·Memᴰ·head refl) i ∷ all-alone s cs (λ d m. h d (List·Memᴰ·tail m)) i
+
+each : (g : File → HsdAnswer) {c : Offer} {cs : List Offer} → answersOf cs ≡ map g (filesOf cs) → List·Memᴰ c cs → c .answer ≡ g (c .file)
+each g e (List·Memᴰ·head q) = rw q (ap (λ (l : List HsdAnswer). getD l 0 (shownRuling fine)) e)
+each g e (List·Memᴰ·tail m) = each g (ap (drop 1) e) m
+
+map-map : (g : Ruling → HsdAnswer) (h : File → Ruling) (fs : List File) → map g (map h fs) ≡ map (λ f. g (h f)) fs
+map-map g h [] = refl
+map-map g h (f ∷ fs) = rw (map-map g h fs)
+
+module _ {s : HsdSlate} {lent : List ℕ} {cs : List Offer} {marks frame : List ℕ} (run : RanC s lent cs marks frame) where
+  abbrev l : Lifted s lent cs marks frame
+  l = lifted run
+
+  pub answer-c : Apart (slateIn s) (filesOf cs) → (c : Offer) → List·Memᴰ c cs → c .answer ≡ shownRuling (alone (slateIn s) (c .file))
+  answer-c a c m =
+      let h = all-alone (slateIn s) (l .calls) (runs.by-itself (slateIn s) (l .good) lent (l .fits) (l .ran) (rw (l .files) a)) in
+      each (λ f. shownRuling (alone (slateIn s) f))
+      (sym (l .answers) ∙ ap (map shownRuling) h ∙ ap (λ (fs : List File). map shownRuling (map (alone (slateIn s)) fs)) (l .files) ∙ map-map shownRuling (alone (slateIn s)) (filesOf cs)) m
+
+  pub numbers-c : (k : ℕ) → marked (marksIn marks) k ≡ came (slateIn s) k (filesOf cs)
+  numbers-c k =
+      ap (λ (m : List ℕ). marked (marksIn m) k) (l .is) ∙ ap (λ (m : List Bool). marked m k) (marks-back (l .newest .marks) (l .long))
+      ∙ runs.record-is (slateIn s) (l .good) lent (l .fits) (l .ran) k ∙ ap (came (slateIn s) k) (l .files)
+
+  module _ (line : ℕ) (some : 1 ≤ line) (most : line ≤ frameLines (slateIn s)) where
+    pub line-came-c : Agree (slateIn s) (filesOf cs) → (f : File) → List·Memᴰ f (filesOf cs) → bears (slateIn s) (coverOf (slateIn s) line) f ≡ true
+        → lineIn (slateIn s) frame line ≡ lineIn (slateIn s) (countsOf f) (withinOf (slateIn s) line)
+    line-came-c a f m e = runs.line-came (slateIn s) (l .good) lent (l .fits) (l .ran) (rw (l .files) a) line some most f (rw (l .files) m) e
+
+    pub line-missing-c : came (slateIn s) (coverOf (slateIn s) line) (filesOf cs) ≡ false → lineIn (slateIn s) frame line ≡ replicate (s .columns) 65534
+    line-missing-c e = runs.line-missing (slateIn s) (l .good) lent (l .fits) (l .ran) line some most (rw (l .files) e)
+
+  module _ {other : List ℕ} {ds : List Offer} {marks' frame' : List ℕ} (run' : RanC s other ds marks' frame') (order : List·Permᴰ (filesOf cs) (filesOf ds)) where
+    abbrev l' : Lifted s other ds marks' frame'
+    l' = lifted run'
+
+    perm : List·Permᴰ (library.files (l .calls)) (library.files (l' .calls))
+    perm = rw (l .files, l' .files) order
+
+    pub same-marks-c : marks ≡ marks'
+    same-marks-c =
+        l .is ∙ ap (λ (r : Record). marksOut (r .marks)) (runs.same-record (slateIn s) (l .good) lent (l .fits) (l .ran) other (l' .fits) (l' .ran) perm) ∙ sym (l' .is)
+
+    pub same-frame-c : Agree (slateIn s) (filesOf cs) → frame ≡ frame'
+    same-frame-c a = runs.same-frame (slateIn s) (l .good) lent (l .fits) (l .ran) other (l' .fits) (l' .ran) perm (rw (l .files) a)
+
+-- a line that C asks for is the part that the library gives for it, copied to the output where there is room
+pub record Copied (s : Slate) (newest : Record) (frame leader : List ℕ) (line : ℕ) (out : List ℕ) (n : ℕ) (out' : List ℕ) : Type 0 where
+  pub part : List ℕ
+  pub came : library.Asked s newest frame leader line part
+  pub count : n ≡ copiedOf part out
+  pub copy : out' ≡ copyOf part out
+
+pub copied : {s : HsdSlate} {lent : List ℕ} {cs : List Offer} {marks frame leader out out' : List ℕ} {line n : ℕ} (run : Lifted s lent cs marks frame)
+    → AskedC s marks frame leader line out n out' → Copied (slateIn s) (run .newest) frame leader line out n out'
+unfolding lineC
+copied {out = out} run (asked κ a r t p es em ef el ei eo) =
+    let marks = run .newest .marks in
+    let m = now (a .1 .0) in
+    let strip = now (a .1 .1 .0) in
+    let leader = now (a .1 .1 .1 .0) in
+    let line = a .1 .1 .1 .1 .0 in
+    let part = lineOf (slateIn (a .0)) marks strip leader line in
+    let e : m ≡ marksOut marks = em ∙ run .is in
+    let good : goodMarks m ≡ true = rw e (good-out marks) in
+    let back : marksIn m ≡ marks = ap marksIn e ∙ marks-back marks (run .long) in
+    let same : lineC (a .0) m strip leader line ≡ part = rw good (ap (λ (k : List Bool). lineOf (slateIn (a .0)) k strip leader line) back) in
+    record {
+      part = part;
+      came = library.asked (κ .0, tt) (slateIn (a .0), (run .newest, (a .1 .1 .0, (a .1 .1 .1 .0, (record { 0 = line }, tt))))) (record { ptr = a .1 .1 .0 .ptr; name = a .1 .1 .0 .name; now = part })
+          (slateIn (a .0), (run .newest, (a .1 .1 .0, (a .1 .1 .1 .0, (record { 0 = line }, tt))))) refl (ap slateIn es) refl ef el ei;
+      count = p .0 ∙ (λ i. copiedOf (same i) (eo i));
+      copy = p .1 ∙ (λ i. copyOf (same i) (eo i));
+    }
+
+-- and each file is answered the same
+pub same-answers-c : {s : HsdSlate} {lent other : List ℕ} {cs ds : List Offer} {marks marks' frame frame' : List ℕ} → RanC s lent cs marks frame → RanC s other ds marks' frame'
+    → List·Permᴰ (filesOf cs) (filesOf ds) → Apart (slateIn s) (filesOf cs) → (c d : Offer) → List·Memᴰ c cs → List·Memᴰ d ds → c .file ≡ d .file → c .answer ≡ d .answer
+same-answers-c {s} run run' order a c d m n e =
+    answer-c run a c m ∙ ap (λ (f : File). shownRuling (alone (slateIn s) f)) e ∙ sym (answer-c run' (apart-perm (slateIn s) order a) d n)
