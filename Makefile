@@ -11,12 +11,16 @@ proved = crates.txt $(shell find crates -name '*.rt' -o -name '*.antt')
 
 all: $(out)/libpanulimbe.a $(out)/panulimbe
 
-target/staticlib/libplugin.a: $(proved)
-	rt staticlib plugin
+# The crates whose functions C calls, one archive each; libpanulimbe.a is their members in one.
+exporting = plugin plugin_frames
+archives = $(exporting:%=target/staticlib/lib%.a)
 
-$(out)/libpanulimbe.a: target/staticlib/libplugin.a
+target/staticlib/lib%.a: $(proved)
+	rt staticlib $*
+
+$(out)/libpanulimbe.a: $(archives)
 	mkdir -p $(out)
-	cp $< $@
+	printf '%s\n' 'create $@' $(archives:%='addlib %') save end | ar -M
 
 $(out)/panulimbe: $(wildcard host/command/*.[ch]) include/hsd.h $(out)/libpanulimbe.a
 	host/cc $(flags) host/command/*.c $(out)/libpanulimbe.a -o $@

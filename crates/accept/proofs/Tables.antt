@@ -34,24 +34,24 @@ shape-of s o k at n h =
     (holds (eq-eqb (num o (span s (at + 1) 2)) n (h .size)) tt))
 
 -- a block with entries
-pub record Listed (s : List ℕ) (k at stated least full : ℕ) : Type 0 where
+pub record Entered (s : List ℕ) (k at stated least full : ℕ) : Type 0 where
   pub least-room : least ≤ length s - at
   pub number : getD s at 0 ≡ k
   pub size : stated ≡ full
   pub room : full ≤ length s - at
 
-listed-is : (s : List ℕ) (k at stated least full : ℕ) → Holds (entries s k at stated least full) → Listed s k at stated least full
+entered-is : (s : List ℕ) (k at stated least full : ℕ) → Holds (entries s k at stated least full) → Entered s k at stated least full
 unfolding entries
-listed-is s k at stated least full h = record {
+entered-is s k at stated least full h = record {
   least-room = leb-true _ _ (h .0);
   number = eqb-true _ _ (h .1 .0);
   size = eqb-true _ _ (h .1 .1 .0);
   room = leb-true _ _ (h .1 .1 .1 .0);
 }
 
-listed-of : (s : List ℕ) (k at stated least full : ℕ) → Listed s k at stated least full → Holds (entries s k at stated least full)
+entered-of : (s : List ℕ) (k at stated least full : ℕ) → Entered s k at stated least full → Holds (entries s k at stated least full)
 unfolding entries
-listed-of s k at stated least full h =
+entered-of s k at stated least full h =
     holds (le-leb least (length s - at) (h .least-room))
     (holds (eq-eqb (getD s at 0) k (h .number))
     (holds (eq-eqb stated full (h .size))
@@ -110,9 +110,9 @@ pub record Accepted (s : List ℕ) : Type 0 where
   pub shape6 : Shape s (orderOf s) 6 745 259
   pub shape7 : Shape s (orderOf s) 7 1004 47
   pub fields7 : Holds (fields7 (block7Of s (orderOf s)) (block2Of s (orderOf s) .lines))
-  pub block8 : Listed s 8 1051 (num (orderOf s) (span s 1052 2)) 61 (61 + 10 * aOf s)
-  pub block9 : Listed s 9 (at9 (aOf s)) (num (orderOf s) (span s (at9 (aOf s) + 1) 2)) 45 (45 + 10 * bOf s)
-  pub block10 : Listed s 10 (at10 (aOf s) (bOf s)) (num (orderOf s) (span s (at10 (aOf s) (bOf s) + 1) 4)) 47 (47 + 4 * cOf s)
+  pub block8 : Entered s 8 1051 (num (orderOf s) (span s 1052 2)) 61 (61 + 10 * aOf s)
+  pub block9 : Entered s 9 (at9 (aOf s)) (num (orderOf s) (span s (at9 (aOf s) + 1) 2)) 45 (45 + 10 * bOf s)
+  pub block10 : Entered s 10 (at10 (aOf s) (bOf s)) (num (orderOf s) (span s (at10 (aOf s) (bOf s) + 1) 4)) 47 (47 + 4 * cOf s)
   pub shape11 : Shape s (orderOf s) 11 (at11 (aOf s) (bOf s) (cOf s)) 259
   pub whole : Whole s (orderOf s) (lengthOf s) (dataOf s)
   pub names : Holds (names (block1Of s (orderOf s)) (block5Of s (orderOf s)) (block7Of s (orderOf s)))
@@ -141,9 +141,9 @@ accepted s e =
       shape6 = shape-is _ _ _ _ _ (m .1 .1 .1 .0);
       shape7 = shape-is _ _ _ _ _ (m .1 .1 .1 .1 .0);
       fields7 = m .1 .1 .1 .1 .1 .0;
-      block8 = listed-is _ _ _ _ _ _ (l .0);
-      block9 = listed-is _ _ _ _ _ _ (l .1 .0);
-      block10 = listed-is _ _ _ _ _ _ (l .1 .1 .0);
+      block8 = entered-is _ _ _ _ _ _ (l .0);
+      block9 = entered-is _ _ _ _ _ _ (l .1 .0);
+      block10 = entered-is _ _ _ _ _ _ (l .1 .1 .0);
       shape11 = shape-is _ _ _ _ _ (l .1 .1 .1 .0);
       whole = record {
         header-sum = eqb-true _ _ (w .0 .0);
@@ -186,9 +186,9 @@ module _ (s : List ℕ) (h : Accepted s) where
   unfolding blocks8to11
   lists =
       each-of _
-      (holds (listed-of _ _ _ _ _ _ (h .block8))
-      (holds (listed-of _ _ _ _ _ _ (h .block9))
-      (holds (listed-of _ _ _ _ _ _ (h .block10))
+      (holds (entered-of _ _ _ _ _ _ (h .block8))
+      (holds (entered-of _ _ _ _ _ _ (h .block9))
+      (holds (entered-of _ _ _ _ _ _ (h .block10))
       (holds (shape-of _ _ _ _ _ (h .shape11)) tt))))
 
   all : Holds (whole s o (lengthOf s) (dataOf s))

@@ -15,7 +15,7 @@ use Rattle.header.specs.declared.Block1.{Block1}
 use Rattle.header.specs.declared.Block2.{Block2}
 use Rattle.header.specs.declared.Block5.{Block5}
 use Rattle.header.specs.declared.Block7.{Block7}
-use Rattle.header.specs.Places.{orderOf, aOf, bOf, cOf, at9, at10, at11, length8, length9, length10, lengthOf, dataLength}
+use Rattle.header.specs.Places.{orderOf, aOf, bOf, cOf, at2, at3, at4, at5, at6, at7, at8, at9, at10, at11, length8, length9, length10, lengthOf, dataLength}
 use Rattle.header.specs.Values.{block1Of, block2Of, block5Of, block7Of}
 
 -- 1 SHORT: n bytes remain for block k, which stands at `at`
@@ -62,7 +62,7 @@ fields1 v =
 
 -- block 2: the bits of a count are fixed
 unfoldable pub fixed2 : List ℕ → ℕ → List Row
-fixed2 s o = fixed 2 (num o (span s 285 2)) 16 ∷ []
+fixed2 s o = fixed 2 (num o (span s (at2 + 3) 2)) 16 ∷ []
 
 -- 6 PACKED: compression flag 1 or 2; then 7: columns, lines, and a flag above 2
 unfoldable pub fields2 : Block2 → List Row
@@ -75,7 +75,7 @@ fields2 v =
 
 -- block 5: the counts of an error and of what is outside are fixed
 unfoldable pub fixed5 : List ℕ → ℕ → List Row
-fixed5 s o = fixed 5 (num o (span s 613 2)) 65535 ∷ fixed 5 (num o (span s 615 2)) 65534 ∷ []
+fixed5 s o = fixed 5 (num o (span s (at5 + 15) 2)) 65535 ∷ fixed 5 (num o (span s (at5 + 17) 2)) 65534 ∷ []
 
 -- 7: band, and its valid bits
 unfoldable pub fields5 : Block5 → List Row
@@ -109,22 +109,22 @@ blocks1to4 s o =
     tables (
     shape1 s o
     ∷ fields1 (block1Of s o)
-    ∷ shape s o 2 282 50
+    ∷ shape s o 2 at2 50
     ∷ fixed2 s o
     ∷ fields2 (block2Of s o)
-    ∷ shape s o 3 332 127
-    ∷ shape s o 4 459 139
+    ∷ shape s o 3 at3 127
+    ∷ shape s o 4 at4 139
     ∷ []
     )
 
 unfoldable pub blocks5to7 : List ℕ → ℕ → List Row
 blocks5to7 s o =
     tables (
-    shape s o 5 598 147
+    shape s o 5 at5 147
     ∷ fixed5 s o
     ∷ fields5 (block5Of s o)
-    ∷ shape s o 6 745 259
-    ∷ shape s o 7 1004 47
+    ∷ shape s o 6 at6 259
+    ∷ shape s o 7 at7 47
     ∷ fields7 (block7Of s o) (block2Of s o .lines)
     ∷ []
     )
@@ -133,7 +133,7 @@ blocks5to7 s o =
 unfoldable pub blocks8to11 : List ℕ → ℕ → ℕ → ℕ → ℕ → List Row
 blocks8to11 s o a b c =
     tables (
-    entries s 8 1051 (num o (span s 1052 2)) 61 (length8 a)
+    entries s 8 at8 (num o (span s (at8 + 1) 2)) 61 (length8 a)
     ∷ entries s 9 (at9 a) (num o (span s (at9 a + 1) 2)) 45 (length9 b)
     ∷ entries s 10 (at10 a b) (num o (span s (at10 a b + 1) 4)) 47 (length10 c)
     ∷ shape s o 11 (at11 a b c) 259

@@ -3,6 +3,7 @@ use header::Block1;
 use header::Block2;
 use header::Block5;
 use header::Block7;
+use reading::Calibration;
 use rules::Refusal;
 use rules::Verdict;
 use rules::Why;
@@ -10,7 +11,7 @@ ghost use mathlib.Core.Path.{_≡_};
 ghost use Prim.Native.Nat.{_<_};
 ghost use Rattle.rules.specs.Rules.{paper, fine, judge};
 ghost use Rattle.accept.specs.Checks.{shape, entries, shape1, fields1, fixed2, fields2, fixed5, fields5, fields7, sums, names, ends, blocks1to4, blocks5to7, blocks8to11, whole, checks};
-ghost use Rattle.accept.specs.Answers.{factsOf, paperAnswer, answerOf};
+ghost use Rattle.accept.specs.Answers.{factsOf, calibrationIn, paperAnswer, answerOf};
 
 // What an accepted file is known by.
 pub struct Facts {
@@ -134,12 +135,12 @@ pub fn check_fields7(v: Verdict, w: Block7, lines: u16) -> Verdict
     rules::check(v, format::good_first(w.first, lines), Why::Field, 7)
 }
 
-fn check_sums(v: Verdict, s: &[u8], order: u8, header: usize, counts: usize) -> Verdict
-    ensures { λ r. ⌜ paper r ≡ judge (paper v) (sums (now (s .entry)) order header counts) ⌝ }
+fn check_sums(v: Verdict, s: &[u8], order: u8, front: usize, counts: usize) -> Verdict
+    ensures { λ r. ⌜ paper r ≡ judge (paper v) (sums (now (s .entry)) order front counts) ⌝ }
 {
     let v = rules::check(
         v,
-        wire::u32_at(s, 70, order) as usize == header,
+        wire::u32_at(s, 70, order) as usize == front,
         Why::HeaderSum,
         1,
     );
@@ -162,10 +163,10 @@ pub fn check_name(v: Verdict, w: Block1, x: Block5, y: Block7) -> Verdict
     rules::check(v, good, Why::Name, 1)
 }
 
-fn check_ends(v: Verdict, s: &[u8], header: usize, counts: usize) -> Verdict
-    ensures { λ r. ⌜ paper r ≡ judge (paper v) (ends (now (s .entry)) header counts) ⌝ }
+fn check_ends(v: Verdict, s: &[u8], front: usize, counts: usize) -> Verdict
+    ensures { λ r. ⌜ paper r ≡ judge (paper v) (ends (now (s .entry)) front counts) ⌝ }
 {
-    let left = wire::left(s, header);
+    let left = wire::left(s, front);
     let v = rules::check(v, counts <= left, Why::Cut, 12);
     rules::check(v, left <= counts, Why::Tail, 12)
 }
@@ -201,9 +202,9 @@ fn check_blocks8to11(v: Verdict, s: &[u8], order: u8, a: u16, b: u16, c: u16) ->
     let full8 = 61 + 10 * (a as usize);
     let full9 = 45 + 10 * (b as usize);
     let full10 = 47 + 4 * (c as usize);
-    let at9 = 1112 + 10 * (a as usize);
-    let at10 = 1157 + 10 * (a as usize) + 10 * (b as usize);
-    let at11 = 1204 + 10 * (a as usize) + 10 * (b as usize) + 4 * (c as usize);
+    let at9 = header::place9(a);
+    let at10 = header::place10(a, b);
+    let at11 = header::place11(a, b, c);
     let stated8 = wire::u16_at(s, 1052, order) as usize;
     let stated9 = wire::u16_at(s, at9 + 1, order) as usize;
     let stated10 = wire::u32_at(s, at10 + 1, order) as usize;
@@ -213,15 +214,15 @@ fn check_blocks8to11(v: Verdict, s: &[u8], order: u8, a: u16, b: u16, c: u16) ->
     check_shape(v, s, order, 11, at11, 259)
 }
 
-fn check_whole(v: Verdict, s: &[u8], order: u8, header: usize, counts: usize) -> Verdict
-    ensures { λ r. ⌜ paper r ≡ judge (paper v) (whole (now (s .entry)) order header counts) ⌝ }
+fn check_whole(v: Verdict, s: &[u8], order: u8, front: usize, counts: usize) -> Verdict
+    ensures { λ r. ⌜ paper r ≡ judge (paper v) (whole (now (s .entry)) order front counts) ⌝ }
 {
     let w = header::read_block1(s, order);
     let x = header::read_block5(s, order);
     let y = header::read_block7(s, order);
-    let v = check_sums(v, s, order, header, counts);
+    let v = check_sums(v, s, order, front, counts);
     let v = check_name(v, w, x, y);
-    check_ends(v, s, header, counts)
+    check_ends(v, s, front, counts)
 }
 
 // Every check of a file, on top of what was checked before it.
@@ -233,12 +234,12 @@ pub fn check_file(v: Verdict, s: &[u8]) -> Verdict
     let b = header::b_of(s);
     let c = header::c_of(s);
     let sizes = header::read_block2(s, order);
-    let header = header::header_length(a, b, c) as usize;
+    let front = header::header_length(a, b, c) as usize;
     let counts = header::data_length(sizes.columns, sizes.lines);
     let v = check_blocks1to4(v, s, order);
     let v = check_blocks5to7(v, s, order);
     let v = check_blocks8to11(v, s, order, a, b, c);
-    check_whole(v, s, order, header, counts)
+    check_whole(v, s, order, front, counts)
 }
 
 // Judges a file: the first check that fails answers.
@@ -253,9 +254,12 @@ pub fn facts_of(s: &[u8]) -> Facts
     ensures { λ r. ⌜ r ≡ factsOf (now (s .entry)) ⌝ }
 {
     let order = wire::byte_at(s, 5);
-    let w = header::read_block1(s, order);
-    let satellite = w.satellite;
-    let name = w.name;
+    let v = header::read_block1(s, order);
+    let w = header::read_block2(s, order);
+    let x = header::read_block5(s, order);
+    let y = header::read_block7(s, order);
+    let satellite = v.satellite;
+    let name = v.name;
     let a = header::a_of(s);
     let b = header::b_of(s);
     let c = header::c_of(s);
@@ -263,23 +267,30 @@ pub fn facts_of(s: &[u8]) -> Facts
         order,
         satellite: format::satellite_of(satellite),
         day: format::day_or_0(format::date_of(name)),
-        timeline: w.timeline,
-        band: wire::u16_at(s, 601, order),
-        bits: wire::u16_at(s, 611, order),
+        timeline: v.timeline,
+        band: x.band,
+        bits: x.bits,
         area: wire::u32_at(s, 38, 1),
-        columns: wire::u16_at(s, 287, order),
-        lines: wire::u16_at(s, 289, order),
-        total: wire::byte_at(s, 1007),
-        number: wire::byte_at(s, 1008),
-        first: wire::u16_at(s, 1009, order),
-        quality: w.quality1,
-        gain: wire::u64_at(s, 617, order),
-        constant: wire::u64_at(s, 625, order),
+        columns: w.columns,
+        lines: w.lines,
+        total: y.total,
+        number: y.number,
+        first: y.first,
+        quality: v.quality1,
+        gain: x.gain,
+        constant: x.constant,
         a,
         b,
         c,
         header: header::header_length(a, b, c),
     }
+}
+
+// What the counts of a file are read by: its own gain and constant, together, and its valid bits.
+pub fn calibration(f: Facts) -> Calibration
+    ensures { λ r. ⌜ r ≡ calibrationIn f ⌝ }
+{
+    reading::calibration_of(f.gain, f.constant, f.bits)
 }
 
 // The answer to a file.

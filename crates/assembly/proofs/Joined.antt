@@ -11,6 +11,7 @@ use borrow.Author.Tests.{eq-eqb, ne-eqb}
 use lib.Dec.{eqb}
 use lib.ListN.{length, take, drop, length-append, length-drop, drop-of-length-le}
 use lib.Seq.{take-append-le, drop-append-le, take-at, drop-append-add}
+use Rattle.slate.proofs.Cuts.{rising}
 use Rattle.frame.specs.Frames.{putAt}
 use Rattle.assembly.specs.History.{joined}
 
@@ -20,8 +21,7 @@ sizes z zero = 0
 sizes z (suc n) = sizes z n + z (suc n)
 
 pub sizes-below : (z : ℕ → ℕ) (k n : ℕ) → k ≤ n → sizes z k ≤ sizes z n
-sizes-below z k zero h = let e : k ≡ 0 = omega arith in rw e (omega arith)
-sizes-below z k (suc n) h = ⊎-elim (λ e. rw e (omega arith)) (λ l. omega (arith, sizes-below z k n (le-of-suc-le-suc l))) (eq-or-lt-of-le h)
+sizes-below z = rising (sizes z) (λ n. omega arith)
 
 -- segments of one size
 pub sizes-even : (m n : ℕ) → sizes (λ _. m) n ≡ n * m

@@ -18,10 +18,10 @@ use Rattle.accept.specs.Checks.{checks}
 use Rattle.accept.specs.Answers.{factsOf}
 use Rattle.slate.specs.declared.Slate.{Slate}
 use Rattle.slate.specs.Cut.{heightOf, linesTo}
-use Rattle.slate.specs.Slates.{goodSlate, sizeOf, startOf, frameSize, matching}
+use Rattle.slate.specs.Slates.{goodSlate, slated, sizeOf, startOf, frameSize, matching}
 use Rattle.slate.proofs.Cuts.{lines-none, lines-more, good}
 use Rattle.frame.specs.Counts.{countsOf}
-use Rattle.frame.specs.Records.{marked, mark, clear, noneAbove}
+use Rattle.frame.specs.Records.{marked, mark, pass, noneAbove}
 use Rattle.frame.specs.Frames.{opening, openFrame, unwritten, ready, placing, offering, offered, putAt, recordAfter, frameAfter}
 use Rattle.frame.proofs.Copying.{counts-length}
 use Rattle.frame.proofs.Putting.{matches}
@@ -80,7 +80,7 @@ row-set p n k h =
     ∙ (rw e at (joined-put (λ _. 1) (λ j. p j ∷ []) n k (true ∷ []) (λ _. refl) refl h))
     ∙ joined-ext (with (λ j. p j ∷ []) (suc k) (true ∷ [])) (λ j. (p j || eqb (suc k) j) ∷ []) n (λ j _ _. pick (p j) (eqb (suc k) j))
 
-clear-all : (marks : List Bool) (k n : ℕ) → ((j : ℕ) → k ≤ j → j < k + n → getD marks j false ≡ false) → clear marks k n ≡ true
+clear-all : (marks : List Bool) (k n : ℕ) → ((j : ℕ) → k ≤ j → j < k + n → getD marks j false ≡ false) → pass not false marks k n ≡ true
 clear-all marks k zero h = refl
 clear-all marks k (suc n) h = rw (h k (omega arith) (omega arith)) (clear-all marks (k + 1) n (λ j a b. h j (omega arith) (omega arith)))
 
@@ -171,7 +171,7 @@ settled s fs f = settle (judge fine (checks f)) (matching s (factsOf f)) (not (c
 
 module _ (s : Slate) (ok : goodSlate s ≡ true) (fs : List File) (f : File) where
   is-ready : judge fine (ready s (marksOf s fs) (length (frameOf s fs))) ≡ fine
-  unfolding ready
+  unfolding ready slated
   is-ready = exactly (ready s (marksOf s fs) (length (frameOf s fs))) .1 (holds ok (holds (marks-none s fs) (holds (eq-eqb _ _ (frame-length s fs)) tt)))
 
   pub answer-is : (h : State) → Closed s fs h → offered s (h .marks) (length (h .frame)) f ≡ settled s fs f
@@ -270,7 +270,7 @@ module _ (s : Slate) (fs : List File) (f : File) where
 
 module _ (s : Slate) (ok : goodSlate s ≡ true) (frame : List ℕ) (fits : length frame ≡ frameSize s) where
   opens : openFrame s frame ≡ frameOf s []
-  unfolding openFrame opening after
+  unfolding openFrame opening slated after
   opens =
       rw (exactly (opening s (length frame)) .1 (holds ok (holds (eq-eqb _ _ fits) tt)), fits, ← sizes-lines s (s .total))
       (sym (joined-replicate unwritten (sizeOf s) (s .total)))

@@ -5,8 +5,7 @@ use header::Block5;
 use header::Block7;
 use header::Header;
 ghost use Rattle.wire.specs.Wire.{join, Stored};
-ghost use Rattle.header.specs.Encode.{bytes1, bytes2, carrying, bytes5, bytes7};
-ghost use Rattle.blocks.specs.Front.{front};
+ghost use Rattle.header.specs.Encode.{bytes1, bytes2, carrying, bytes5, bytes7, frontBlocks};
 
 // Stores of so many bytes.
 fn put16(out: &mut [u8], at: usize, b: [u8; 16])
@@ -46,8 +45,8 @@ fn put136(out: &mut [u8], at: usize, b: [u8; 136])
 }
 
 // The blocks, each stored piece by piece. header and counts: their lengths.
-fn write1(out: &mut [u8], v: Block1, header: u32, counts: u32)
-    ensures { λ _. ⌜ Stored 282 (now (out .entry)) 0 (bytes1 v header counts) (now (out .exit)) ⌝ }
+fn write1(out: &mut [u8], v: Block1, front: u32, counts: u32)
+    ensures { λ _. ⌜ Stored 282 (now (out .entry)) 0 (bytes1 v front counts) (now (out .exit)) ⌝ }
 {
     let satellite = v.satellite;
     let centre = v.centre;
@@ -68,7 +67,7 @@ fn write1(out: &mut [u8], v: Block1, header: u32, counts: u32)
     wire::put_u64(out, 46, v.started, v.order);
     wire::put_u64(out, 54, v.ended, v.order);
     wire::put_u64(out, 62, v.created, v.order);
-    wire::put_u32(out, 70, header, v.order);
+    wire::put_u32(out, 70, front, v.order);
     wire::put_u32(out, 74, counts, v.order);
     wire::put_byte(out, 78, v.quality1);
     wire::put_byte(out, 79, v.quality2);
@@ -145,8 +144,8 @@ fn write7(out: &mut [u8], order: u8, v: Block7)
 }
 
 // All seven.
-pub fn write_front(out: &mut [u8], h: Header, header: u32, counts: u32)
-    ensures { λ _. ⌜ Stored 1051 (now (out .entry)) 0 (join (front h header counts)) (now (out .exit)) ⌝ }
+pub fn write_front(out: &mut [u8], h: Header, front: u32, counts: u32)
+    ensures { λ _. ⌜ Stored 1051 (now (out .entry)) 0 (join (frontBlocks h front counts)) (now (out .exit)) ⌝ }
 {
     let block1 = h.block1;
     let block2 = h.block2;
@@ -155,7 +154,7 @@ pub fn write_front(out: &mut [u8], h: Header, header: u32, counts: u32)
     let block5 = h.block5;
     let carried6 = h.carried6;
     let block7 = h.block7;
-    write1(out, block1, header, counts);
+    write1(out, block1, front, counts);
     write2(out, block1.order, block2);
     write3(out, block1.order, carried3);
     write4(out, block1.order, carried4);

@@ -50,5 +50,5 @@ paperFrame (film.Number n) = says n
 paperFrame (film.Refused t) = refuses (paperOf t)
 
 -- the shot's slot minus the first shot's, negative if earlier
-unfoldable pub frameOf : ℕ → ℕ → ℕ → ℕ → Reply ℤ
-frameOf d₀ t₀ d t = reply (judge fine (shots d₀ t₀ d t)) (pos (slotAt d t) -ℤ pos (slotAt d₀ t₀))
+unfoldable pub filmFrameOf : ℕ → ℕ → ℕ → ℕ → Reply ℤ
+filmFrameOf d₀ t₀ d t = reply (judge fine (shots d₀ t₀ d t)) (pos (slotAt d t) -ℤ pos (slotAt d₀ t₀))

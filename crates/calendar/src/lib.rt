@@ -7,7 +7,7 @@ ghost use Prim.Native.Nat.{_<_};
 ghost use lib.IntN.{pos, _-ℤ_};
 ghost use Rattle.rules.specs.Rules.{paper, judge, fine};
 ghost use Rattle.calendar.specs.Dates.{leap, monthLength, monthStart, real, paperDay, dayOf};
-ghost use Rattle.calendar.specs.Shots.{goodDay, goodTimeline, slotAt, shot, paperSlot, slotOf, shots, paperFrame, frameOf};
+ghost use Rattle.calendar.specs.Shots.{goodDay, goodTimeline, slotAt, shot, paperSlot, slotOf, shots, paperFrame, filmFrameOf};
 
 // The Modified Julian Day of a date.
 pub enum Dated {
@@ -145,7 +145,7 @@ fn difference(a: u64, b: u64) -> i64
 
 // The shot's slot minus the first shot's.
 pub fn frame_number(first_day: u32, first_timeline: u16, day: u32, timeline: u16) -> FilmFrame
-    ensures { λ r. ⌜ paperFrame r ≡ frameOf «first_day» «first_timeline» day timeline ⌝ }
+    ensures { λ r. ⌜ paperFrame r ≡ filmFrameOf «first_day» «first_timeline» day timeline ⌝ }
 {
     let v = check_shots(first_day, first_timeline, day, timeline);
     match v {

@@ -302,7 +302,7 @@ pub(crate) fn apply(out: &mut [u8], p: [usize; 22], x: usize) {
 }
 
 pub(crate) fn letters(n: u32) -> bool {
-    let b = wire::four(n, 1);
+    let b = wire::four_bytes(n, 1);
     io::write_all(STDOUT_FILENO, &b)
 }
 

@@ -198,7 +198,7 @@ fn number(s: [usize; 18], x: usize) -> u32 {
 // The lowest bytes of a number, as many as the field has.
 fn put(out: &mut [u8; 1495], s: [usize; 18], x: usize, order: u8) {
     let order = if x < DIGITS { order } else { 1 };
-    let b = wire::four(number(s, x), order);
+    let b = wire::four_bytes(number(s, x), order);
     let width = x / FORM % 10;
     let from = if order == 0 { 0 } else { 4 - width % 5 };
     wire::put(out, place(s, x), wire::piece(&b, from, width));

@@ -71,7 +71,7 @@ pub(crate) fn number(n: usize) {
 }
 
 pub(crate) fn letters(n: u32) {
-    let b = wire::four(n, 1);
+    let b = wire::four_bytes(n, 1);
     io::write_all(STDOUT_FILENO, b" ");
     io::write_all(STDOUT_FILENO, &b);
 }

@@ -132,7 +132,7 @@ fn tell_glyph(x: usize) {
 }
 
 fn tell_letters(n: u32) {
-    let b = wire::four(n, 1);
+    let b = wire::four_bytes(n, 1);
     io::write_all(STDOUT_FILENO, &b);
 }
 

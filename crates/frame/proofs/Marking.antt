@@ -7,19 +7,19 @@ use Prim.Native.Nat.{ℕ, suc, _+_, _-_, _<_, _≤_}
 use native.Mathlib.Nat.{zero-add, add-zero, add-assoc}
 use native.Mathlib.Omega.{arith}
 use lib.ListN.{getD}
-use Rattle.frame.specs.Records.{noneAbove, oneOf, tallied, tallyOf}
+use Rattle.frame.specs.Records.{pass, oneOf, tallied, tallyOf}
 
-pub none-hit : (marks : List Bool) (k : ℕ) → k < 99 → getD marks k false ≡ true → noneAbove k marks ≡ false
-unfolding noneAbove
-none-hit marks k h e = let s : 99 - k ≡ suc (99 - (k + 1)) = omega arith in rw (s, e)
+-- ---- a test of the 99 elements, from place k on
 
-pub none-miss : (marks : List Bool) (k : ℕ) → k < 99 → getD marks k false ≡ false → noneAbove k marks ≡ noneAbove (k + 1) marks
-unfolding noneAbove
-none-miss marks k h e = let s : 99 - k ≡ suc (99 - (k + 1)) = omega arith in rw (s, e)
+module _ {A : Type 0} (test : A → Bool) (d : A) (l : List A) (k : ℕ) where
+  pub pass-hit : k < 99 → test (getD l k d) ≡ false → pass test d l k (99 - k) ≡ false
+  pass-hit h e = let s : 99 - k ≡ suc (99 - (k + 1)) = omega arith in rw (s, e)
 
-pub none-end : (marks : List Bool) (k : ℕ) → 99 ≤ k → noneAbove k marks ≡ true
-unfolding noneAbove
-none-end marks k h = let s : 99 - k ≡ 0 = omega arith in rw s
+  pub pass-miss : k < 99 → test (getD l k d) ≡ true → pass test d l k (99 - k) ≡ pass test d l (k + 1) (99 - (k + 1))
+  pass-miss h e = let s : 99 - k ≡ suc (99 - (k + 1)) = omega arith in rw (s, e)
+
+  pub pass-end : 99 ≤ k → pass test d l k (99 - k) ≡ true
+  pass-end h = let s : 99 - k ≡ 0 = omega arith in rw s
 
 -- ---- what was counted so far, and what is still to be counted from place k on
 

@@ -18,7 +18,7 @@ use Rattle.accept.specs.Checks.{checks}
 use Rattle.accept.proofs.Known.{known}
 use Rattle.slate.specs.declared.Slate.{Slate}
 use Rattle.slate.specs.Cut.{heightOf, linesTo}
-use Rattle.slate.specs.Slates.{goodSlate, sizeOf, frameSize, sameShot, sameCut, matching}
+use Rattle.slate.specs.Slates.{slated, goodSlate, sizeOf, frameSize, sameShot, sameCut, matching}
 use Rattle.frame.specs.Counts.{counts}
 use Rattle.frame.specs.Frames.{putAt, ready, placing, offering, offered}
 
@@ -65,9 +65,9 @@ pub record Placed (s : Slate) (size : ℕ) (f : List ℕ) : Type 0 where
   pub file : judge fine (checks f) ≡ fine
   pub match : matching s (factsOf f) ≡ true
 
-pub placed : (s : Slate) (marks : List Bool) (size : ℕ) (f : List ℕ) → offered s marks size f ≡ fine → Placed s size f
-unfolding offering ready placing
-placed s marks size f e =
+pub places : (s : Slate) (marks : List Bool) (size : ℕ) (f : List ℕ) → offered s marks size f ≡ fine → Placed s size f
+unfolding offering ready slated placing
+places s marks size f e =
     let h = each-is _ (exactly (offering s marks size f) .0 e) in
     record {
       slate = h .0 .0;

@@ -8,14 +8,14 @@ use Rattle.rules.specs.Rules.{Row, row, tables, Ruling, fine, judge, after}
 use Rattle.accept.specs.Checks.{checks}
 use Rattle.accept.specs.Answers.{factsOf}
 use Rattle.slate.specs.declared.Slate.{Slate}
-use Rattle.slate.specs.Slates.{goodSlate, startOf, frameSize, matching}
+use Rattle.slate.specs.Slates.{slated, startOf, frameSize, matching}
 use Rattle.frame.specs.Counts.{countsOf}
 use Rattle.frame.specs.Records.{marked, mark, noneAbove}
 
 -- ---- opening: 13 SLATE, 14 STRIP
 
 unfoldable pub opening : Slate → ℕ → List Row
-opening s size = row (goodSlate s) 13 0 ∷ row (eqb size (frameSize s)) 14 0 ∷ []
+opening s size = slated s ++ (row (eqb size (frameSize s)) 14 0 ∷ [])
 
 abbrev pub opened : Slate → ℕ → Ruling
 opened s size = judge fine (opening s size)
@@ -31,10 +31,10 @@ openFrame s frame = after (opened s (length frame)) frame (replicate (length fra
 
 unfoldable pub ready : Slate → List Bool → ℕ → List Row
 ready s marks size =
-    row (goodSlate s) 13 0
-    ∷ row (noneAbove (s .total) marks) 13 0
+    slated s
+    ++ (row (noneAbove (s .total) marks) 13 0
     ∷ row (eqb size (frameSize s)) 14 0
-    ∷ []
+    ∷ [])
 
 unfoldable pub placing : Slate → List Bool → List ℕ → List Row
 placing s marks f =

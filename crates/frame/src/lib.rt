@@ -63,7 +63,8 @@ fn none_above(rec: Record, total: u8) -> bool
     true
 }
 
-fn one(marked: bool) -> u8
+// A mark as a number.
+pub fn one(marked: bool) -> u8
     ensures { λ r. ⌜ (r ≡ oneOf marked) × (r ≤ 1) ⌝ }
 {
     if marked { 1 } else { 0 }

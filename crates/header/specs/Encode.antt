@@ -1,6 +1,6 @@
 -- The bytes of a header, block by block, as table 6 of document 000 has them.
 use Prim.Native.Nat.{ℕ, _+_, _*_}
-use mathlib.Core.List.{List, [], _∷_}
+use mathlib.Core.List.{List, [], _∷_, _++_}
 use lib.ListN.{length, getD}
 use Rattle.wire.specs.Wire.{digits, join, rows}
 use Rattle.header.specs.declared.Block1.{Block1}
@@ -131,20 +131,36 @@ bytes10 o spare ls ps =
     let c = length ls in
     join ((10 ∷ []) ∷ digits o 4 (length10 c) ∷ digits o 2 c ∷ rows (entry10 o ls ps) c ∷ spare ∷ [])
 
-unfoldable pub encode : Header → Entries → List ℕ
-encode v e =
+-- blocks 1 to 7; header and counts: their lengths
+unfoldable pub frontBlocks : Header → ℕ → ℕ → List (List ℕ)
+frontBlocks v header counts =
     let o = v .block1 .order in
-    join (
-    bytes1 (v .block1) (headerLength (length (e .lines8)) (length (e .lines9)) (length (e .lines10))) (dataLength (v .block2 .columns) (v .block2 .lines))
+    bytes1 (v .block1) header counts
     ∷ bytes2 o (v .block2)
     ∷ carrying 3 o 127 (v .carried3)
     ∷ carrying 4 o 139 (v .carried4)
     ∷ bytes5 o (v .block5)
     ∷ carrying 6 o 259 (v .carried6)
     ∷ bytes7 o (v .block7)
-    ∷ bytes8 o (v .block8) (e .lines8) (e .columnShifts) (e .lineShifts)
+    ∷ []
+
+-- blocks 8 to 11
+unfoldable pub backBlocks : Header → Entries → List (List ℕ)
+backBlocks v e =
+    let o = v .block1 .order in
+    bytes8 o (v .block8) (e .lines8) (e .columnShifts) (e .lineShifts)
     ∷ bytes9 o (v .spare9) (e .lines9) (e .times)
     ∷ bytes10 o (v .spare10) (e .lines10) (e .pixels)
     ∷ carrying 11 o 259 (v .spare11)
     ∷ []
-    )
+
+-- the header's own length, by its entries
+abbrev pub lengthFor : Entries → ℕ
+lengthFor e = headerLength (length (e .lines8)) (length (e .lines9)) (length (e .lines10))
+
+-- the eleven blocks, in their order
+unfoldable pub blocksOf : Header → Entries → List (List ℕ)
+blocksOf v e = frontBlocks v (lengthFor e) (dataLength (v .block2 .columns) (v .block2 .lines)) ++ backBlocks v e
+
+unfoldable pub encode : Header → Entries → List ℕ
+encode v e = join (blocksOf v e)

@@ -2,7 +2,7 @@
 use Prim.Native.Nat.{ℕ, _+_, _*_}
 use mathlib.Core.List.{List}
 use Rattle.wire.specs.Wire.{span, num, tab}
-use Rattle.header.specs.Places.{orderOf, aOf, bOf, cOf, at9, at10}
+use Rattle.header.specs.Places.{orderOf, aOf, bOf, cOf, at8, at9, at10}
 use Rattle.header.specs.Encode.{Entries}
 
 -- n numbers of w bytes, the first at `at` and each a stride after the one before
@@ -16,9 +16,9 @@ entriesOf s =
     let b = bOf s in
     let c = cOf s in
     record {
-      lines8 = column s o 1072 10 2 a;
-      columnShifts = column s o 1074 10 4 a;
-      lineShifts = column s o 1078 10 4 a;
+      lines8 = column s o (at8 + 21) 10 2 a;
+      columnShifts = column s o (at8 + 23) 10 4 a;
+      lineShifts = column s o (at8 + 27) 10 4 a;
       lines9 = column s o (at9 a + 5) 10 2 b;
       times = column s o (at9 a + 7) 10 8 b;
       lines10 = column s o (at10 a b + 7) 4 2 c;

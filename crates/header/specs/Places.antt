@@ -1,9 +1,30 @@
--- Where the blocks of a file stand, and the numbers that say so. Blocks 1 to 8 stand at fixed places:
--- 0, 282, 332, 459, 598, 745, 1,004 and 1,051.
+-- Where the blocks of a file stand, and the numbers that say so.
 use Prim.Native.Nat.{ℕ, _+_, _*_}
 use mathlib.Core.List.{List}
 use lib.ListN.{getD}
 use Rattle.wire.specs.Wire.{span, num}
+
+-- block 1 stands at 0, and blocks 2 to 8 where the lengths before them say, which are fixed
+abbrev pub at2 : ℕ
+at2 = 282
+
+abbrev pub at3 : ℕ
+at3 = 332
+
+abbrev pub at4 : ℕ
+at4 = 459
+
+abbrev pub at5 : ℕ
+at5 = 598
+
+abbrev pub at6 : ℕ
+at6 = 745
+
+abbrev pub at7 : ℕ
+at7 = 1004
+
+abbrev pub at8 : ℕ
+at8 = 1051
 
 -- the byte order, which rules every number in the file
 abbrev pub orderOf : List ℕ → ℕ
@@ -11,7 +32,7 @@ orderOf s = getD s 5 0
 
 -- a, the entries of block 8, and where block 9 stands
 abbrev pub aOf : List ℕ → ℕ
-aOf s = num (orderOf s) (span s 1070 2)
+aOf s = num (orderOf s) (span s (at8 + 19) 2)
 
 abbrev pub at9 : ℕ → ℕ
 at9 a = 1112 + 10 * a

@@ -1,5 +1,4 @@
--- The header's values by block, as the file s has them in the byte order o. Places are counted from the file's start:
--- block 1 stands at 0, 2 at 282, 3 at 332, 4 at 459, 5 at 598, 6 at 745, 7 at 1,004 and 8 at 1,051.
+-- The header's values by block, as the file s has them in the byte order o: each at its block's place and the paper's offset.
 use Prim.Native.Nat.{ℕ, _+_, _*_}
 use mathlib.Core.List.{List}
 use lib.ListN.{getD}
@@ -10,7 +9,7 @@ use Rattle.header.specs.declared.Block5.{Block5}
 use Rattle.header.specs.declared.Block7.{Block7}
 use Rattle.header.specs.declared.Block8.{Block8}
 use Rattle.header.specs.declared.Header.{Header}
-use Rattle.header.specs.Places.{orderOf, aOf, bOf, cOf, at9, at10, at11}
+use Rattle.header.specs.Places.{orderOf, aOf, bOf, cOf, at2, at3, at4, at5, at6, at7, at8, at9, at10, at11}
 
 unfoldable pub block1Of : List ℕ → ℕ → Block1
 block1Of s o = record {
@@ -34,37 +33,37 @@ block1Of s o = record {
 
 unfoldable pub block2Of : List ℕ → ℕ → Block2
 block2Of s o = record {
-  columns = num o (span s 287 2);
-  lines = num o (span s 289 2);
-  compression = getD s 291 0;
-  spare = span s 292 40;
+  columns = num o (span s (at2 + 5) 2);
+  lines = num o (span s (at2 + 7) 2);
+  compression = getD s (at2 + 9) 0;
+  spare = span s (at2 + 10) 40;
 }
 
 unfoldable pub block5Of : List ℕ → ℕ → Block5
 block5Of s o = record {
-  band = num o (span s 601 2);
-  wavelength = num o (span s 603 8);
-  bits = num o (span s 611 2);
-  gain = num o (span s 617 8);
-  constant = num o (span s 625 8);
-  carried = span s 633 112;
+  band = num o (span s (at5 + 3) 2);
+  wavelength = num o (span s (at5 + 5) 8);
+  bits = num o (span s (at5 + 13) 2);
+  gain = num o (span s (at5 + 19) 8);
+  constant = num o (span s (at5 + 27) 8);
+  carried = span s (at5 + 35) 112;
 }
 
 unfoldable pub block7Of : List ℕ → ℕ → Block7
 block7Of s o = record {
-  total = getD s 1007 0;
-  number = getD s 1008 0;
-  first = num o (span s 1009 2);
-  spare = span s 1011 40;
+  total = getD s (at7 + 3) 0;
+  number = getD s (at7 + 4) 0;
+  first = num o (span s (at7 + 5) 2);
+  spare = span s (at7 + 7) 40;
 }
 
 -- a: the entries of block 8, before its spare
 unfoldable pub block8Of : List ℕ → ℕ → ℕ → Block8
 block8Of s o a = record {
-  column = num o (span s 1054 4);
-  line = num o (span s 1058 4);
-  rotation = num o (span s 1062 8);
-  spare = span s (1072 + 10 * a) 40;
+  column = num o (span s (at8 + 3) 4);
+  line = num o (span s (at8 + 7) 4);
+  rotation = num o (span s (at8 + 11) 8);
+  spare = span s (at8 + 21 + 10 * a) 40;
 }
 
 -- every value that is not derived, but the entries
@@ -77,10 +76,10 @@ headerOf s =
     record {
       block1 = block1Of s o;
       block2 = block2Of s o;
-      carried3 = span s 335 124;
-      carried4 = span s 462 136;
+      carried3 = span s (at3 + 3) 124;
+      carried4 = span s (at4 + 3) 136;
       block5 = block5Of s o;
-      carried6 = span s 748 256;
+      carried6 = span s (at6 + 3) 256;
       block7 = block7Of s o;
       block8 = block8Of s o a;
       spare9 = span s (at9 a + 5 + 10 * b) 40;

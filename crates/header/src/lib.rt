@@ -226,6 +226,25 @@ pub fn read_block8(s: &[u8], order: u8, a: u16) -> Block8
     }
 }
 
+// Where blocks 9, 10 and 11 stand, by the entries before them.
+pub fn place9(a: u16) -> usize
+    ensures { λ r. ⌜ r ≡ at9 a ⌝ }
+{
+    1112 + 10 * (a as usize)
+}
+
+pub fn place10(a: u16, b: u16) -> usize
+    ensures { λ r. ⌜ r ≡ at10 a b ⌝ }
+{
+    1157 + 10 * (a as usize) + 10 * (b as usize)
+}
+
+pub fn place11(a: u16, b: u16, c: u16) -> usize
+    ensures { λ r. ⌜ r ≡ at11 a b c ⌝ }
+{
+    1204 + 10 * (a as usize) + 10 * (b as usize) + 4 * (c as usize)
+}
+
 // The entries of blocks 8, 9 and 10, as a file states them.
 pub fn a_of(s: &[u8]) -> u16
     ensures { λ r. ⌜ r ≡ aOf (now (s .entry)) ⌝ }
@@ -236,16 +255,13 @@ pub fn a_of(s: &[u8]) -> u16
 pub fn b_of(s: &[u8]) -> u16
     ensures { λ r. ⌜ r ≡ bOf (now (s .entry)) ⌝ }
 {
-    let a = a_of(s) as usize;
-    wire::u16_at(s, 1112 + 10 * a + 3, wire::byte_at(s, 5))
+    wire::u16_at(s, place9(a_of(s)) + 3, wire::byte_at(s, 5))
 }
 
 pub fn c_of(s: &[u8]) -> u16
     ensures { λ r. ⌜ r ≡ cOf (now (s .entry)) ⌝ }
 {
-    let a = a_of(s) as usize;
-    let b = b_of(s) as usize;
-    wire::u16_at(s, 1157 + 10 * a + 10 * b + 5, wire::byte_at(s, 5))
+    wire::u16_at(s, place10(a_of(s), b_of(s)) + 5, wire::byte_at(s, 5))
 }
 
 // The header's length by its entries, and that of the counts.
@@ -265,25 +281,19 @@ pub fn data_length(columns: u16, lines: u16) -> usize
 fn read_spare9(s: &[u8], a: u16, b: u16) -> [u8; 40]
     ensures { λ r. ⌜ r ≡ span (now (s .entry)) (at9 a + 5 + 10 * b) 40 ⌝ }
 {
-    run40(s, 1112 + 10 * (a as usize) + 5 + 10 * (b as usize))
+    run40(s, place9(a) + 5 + 10 * (b as usize))
 }
 
 fn read_spare10(s: &[u8], a: u16, b: u16, c: u16) -> [u8; 40]
     ensures { λ r. ⌜ r ≡ span (now (s .entry)) (at10 a b + 7 + 4 * c) 40 ⌝ }
 {
-    run40(
-        s,
-        1157 + 10 * (a as usize) + 10 * (b as usize) + 7 + 4 * (c as usize),
-    )
+    run40(s, place10(a, b) + 7 + 4 * (c as usize))
 }
 
 fn read_spare11(s: &[u8], a: u16, b: u16, c: u16) -> [u8; 256]
     ensures { λ r. ⌜ r ≡ span (now (s .entry)) (at11 a b c + 3) 256 ⌝ }
 {
-    run256(
-        s,
-        1204 + 10 * (a as usize) + 10 * (b as usize) + 4 * (c as usize) + 3,
-    )
+    run256(s, place11(a, b, c) + 3)
 }
 
 // The values of a header.

@@ -24,39 +24,39 @@ numeral n = decimal (width n n) n
 abbrev pub plain : ℕ → List ℕ
 plain n = 32 ∷ numeral n
 
-abbrev pub four : ℕ → List ℕ
-four n = 32 ∷ decimal 4 n
+abbrev pub hhmm : ℕ → List ℕ
+hhmm n = 32 ∷ decimal 4 n
 
 abbrev pub letters : ℕ → List ℕ
 letters a = 32 ∷ digits 1 4 a
 
 -- satellite, day, timeline, band, area
-unfoldable pub shot : ℕ → ℕ → ℕ → ℕ → ℕ → List ℕ
-shot satellite day timeline band area = join (plain satellite ∷ plain day ∷ four timeline ∷ plain band ∷ letters area ∷ [])
+unfoldable pub shotWords : ℕ → ℕ → ℕ → ℕ → ℕ → List ℕ
+shotWords satellite day timeline band area = join (plain satellite ∷ plain day ∷ hhmm timeline ∷ plain band ∷ letters area ∷ [])
 
 -- columns, lines, number, total, first line
-unfoldable pub segment : ℕ → ℕ → ℕ → ℕ → ℕ → List ℕ
-segment columns lines number total first = join (plain columns ∷ plain lines ∷ plain number ∷ plain total ∷ plain first ∷ [])
+unfoldable pub segmentWords : ℕ → ℕ → ℕ → ℕ → ℕ → List ℕ
+segmentWords columns lines number total first = join (plain columns ∷ plain lines ∷ plain number ∷ plain total ∷ plain first ∷ [])
 
 -- what a refusal says: NO, its number and its block
-unfoldable pub refusalOf : Turned → List ℕ
-refusalOf (turned n b) = join ((78 ∷ 79 ∷ []) ∷ plain n ∷ plain b ∷ [])
+unfoldable pub refusalWords : Turned → List ℕ
+refusalWords (turned n b) = join ((78 ∷ 79 ∷ []) ∷ plain n ∷ plain b ∷ [])
 
 -- OK, the shot and the segment; or what the refusal says
-unfoldable pub lineOf : Reply Facts → List ℕ
-lineOf (says f) =
+unfoldable pub lineWords : Reply Facts → List ℕ
+lineWords (says f) =
     join (
     (79 ∷ 75 ∷ [])
-    ∷ shot (f .satellite) (f .day) (f .timeline) (f .band) (f .area)
-    ∷ segment (f .columns) (f .lines) (f .number) (f .total) (f .first)
+    ∷ shotWords (f .satellite) (f .day) (f .timeline) (f .band) (f .area)
+    ∷ segmentWords (f .columns) (f .lines) (f .number) (f .total) (f .first)
     ∷ (10 ∷ [])
     ∷ []
     )
-lineOf (refuses t) = join (refusalOf t ∷ (10 ∷ []) ∷ [])
+lineWords (refuses t) = join (refusalWords t ∷ (10 ∷ []) ∷ [])
 
 -- what is printed of a file: BIG beyond 65,536 bytes, and else the line of its answer
 unfoldable pub listed : List ℕ → List ℕ
-listed s = cond (ltb 65536 (length s)) (66 ∷ 73 ∷ 71 ∷ 10 ∷ []) (lineOf (answerOf s))
+listed s = cond (ltb 65536 (length s)) (66 ∷ 73 ∷ 71 ∷ 10 ∷ []) (lineWords (answerOf s))
 
 -- the line of s was stored at the front of a buffer, the rest of it is as it was, and r is the line's length
 pub record Listed (s before after : List ℕ) (r : ℕ) : Type 0 where

@@ -8,7 +8,7 @@ ghost use Rattle.wire.specs.Wire.{Stored};
 ghost use Rattle.rules.specs.Rules.{paperOf, says, refuses};
 ghost use Rattle.format.specs.Texts.{decimal};
 ghost use Rattle.accept.specs.Answers.{paperAnswer};
-ghost use Rattle.listing.specs.Lines.{width, plain, four, letters, shot, segment, refusalOf, lineOf, Listed};
+ghost use Rattle.listing.specs.Lines.{width, plain, hhmm, letters, shotWords, segmentWords, refusalWords, lineWords, Listed};
 
 // How many digits a number has.
 fn width_of(n: u32) -> usize
@@ -52,7 +52,7 @@ fn put_plain(out: &mut [u8], at: usize, n: u32) -> usize
 // A space and a number with four digits.
 fn put_four(out: &mut [u8], at: usize, n: u16)
     requires { ⌜ at ≤ 128 ⌝ }
-    ensures { λ _. ⌜ Stored 5 (now (out .entry)) at (four n) (now (out .exit)) ⌝ }
+    ensures { λ _. ⌜ Stored 5 (now (out .entry)) at (hhmm n) (now (out .exit)) ⌝ }
 {
     wire::put_byte(out, at, b' ');
     put_decimal(out, at + 1, 4, n as u32);
@@ -78,7 +78,7 @@ fn put_shot(
     area: u32,
 ) -> usize
     requires { ⌜ at ≤ 64 ⌝ }
-    ensures { λ r. ⌜ Stored r (now (out .entry)) at (shot satellite day timeline band area) (now (out .exit)) × (r ≤ 31) ⌝ }
+    ensures { λ r. ⌜ Stored r (now (out .entry)) at (shotWords satellite day timeline band area) (now (out .exit)) × (r ≤ 31) ⌝ }
 {
     let p = at + put_plain(out, at, satellite as u32);
     let p = p + put_plain(out, p, day);
@@ -99,7 +99,7 @@ fn put_segment(
     first: u16,
 ) -> usize
     requires { ⌜ at ≤ 64 ⌝ }
-    ensures { λ r. ⌜ Stored r (now (out .entry)) at (segment columns lines number total first) (now (out .exit)) × (r ≤ 26) ⌝ }
+    ensures { λ r. ⌜ Stored r (now (out .entry)) at (segmentWords columns lines number total first) (now (out .exit)) × (r ≤ 26) ⌝ }
 {
     let p = at + put_plain(out, at, columns as u32);
     let p = p + put_plain(out, p, lines as u32);
@@ -111,7 +111,7 @@ fn put_segment(
 
 // What a refusal says, stored at the front of a lent slice; answers how many bytes that is.
 pub fn refusal(out: &mut [u8], t: Refusal) -> usize
-    ensures { λ r. ⌜ Stored r (now (out .entry)) 0 (refusalOf (paperOf t)) (now (out .exit)) × (r ≤ 24) ⌝ }
+    ensures { λ r. ⌜ Stored r (now (out .entry)) 0 (refusalWords (paperOf t)) (now (out .exit)) × (r ≤ 24) ⌝ }
 {
     let why = t.why;
     wire::put(out, 0, b"NO");
@@ -121,7 +121,7 @@ pub fn refusal(out: &mut [u8], t: Refusal) -> usize
 
 // The line of each answer; no facts and no refusal make it longer than 64 bytes.
 fn put_accepted(out: &mut [u8], f: Facts) -> usize
-    ensures { λ r. ⌜ Stored r (now (out .entry)) 0 (lineOf (says f)) (now (out .exit)) × (r ≤ 64) ⌝ }
+    ensures { λ r. ⌜ Stored r (now (out .entry)) 0 (lineWords (says f)) (now (out .exit)) × (r ≤ 64) ⌝ }
 {
     wire::put(out, 0, b"OK");
     let at = 2 + put_shot(out, 2, f.satellite, f.day, f.timeline, f.band, f.area);
@@ -131,7 +131,7 @@ fn put_accepted(out: &mut [u8], f: Facts) -> usize
 }
 
 fn put_refused(out: &mut [u8], t: Refusal) -> usize
-    ensures { λ r. ⌜ Stored r (now (out .entry)) 0 (lineOf (refuses (paperOf t))) (now (out .exit)) × (r ≤ 64) ⌝ }
+    ensures { λ r. ⌜ Stored r (now (out .entry)) 0 (lineWords (refuses (paperOf t))) (now (out .exit)) × (r ≤ 64) ⌝ }
 {
     let at = refusal(out, t);
     wire::put_byte(out, at, b'\n');
@@ -139,7 +139,7 @@ fn put_refused(out: &mut [u8], t: Refusal) -> usize
 }
 
 fn put_answer(out: &mut [u8], a: Answer) -> usize
-    ensures { λ r. ⌜ Stored r (now (out .entry)) 0 (lineOf (paperAnswer a)) (now (out .exit)) × (r ≤ 64) ⌝ }
+    ensures { λ r. ⌜ Stored r (now (out .entry)) 0 (lineWords (paperAnswer a)) (now (out .exit)) × (r ≤ 64) ⌝ }
 {
     match a {
         Answer::Accepted(f) => put_accepted(out, f),

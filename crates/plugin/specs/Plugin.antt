@@ -2,9 +2,10 @@
 use Prim.Native.Nat.{ℕ}
 use mathlib.Core.Bool.{false}
 use lib.IntN.{ℤ, pos}
-use lib.Ieee.{Float, fin, binary64, ofBits}
+use lib.Ieee.{Float, fin}
 use Rattle.rules.specs.Rules.{turned, Reply, says, refuses}
 use Rattle.accept.specs.declared.Facts.{Facts}
+use Rattle.accept.specs.Answers.{calibrationIn}
 use Rattle.reading.specs.declared.Calibration.{Calibration}
 use Rattle.reading.specs.declared.Reading.{Reading}
 use Rattle.reading.specs.declared.Reading.the-variants.{Radiance, ErrorPixel, Outside, OverRange, Uncalibrated}
@@ -38,7 +39,7 @@ refusedFile n b = record {
   constant = zero;
 }
 
--- an accepted file's facts; every NaN's pattern is nan
+-- an accepted file's facts, with what its counts are read by; every NaN's pattern is nan
 unfoldable pub shownFile : Reply Facts → HsdFile
 shownFile (says f) = record {
   refusal = 0;
@@ -54,16 +55,20 @@ shownFile (says f) = record {
   number = f .number;
   total = f .total;
   «first_line» = f .first;
-  «valid_bits» = f .bits;
+  «valid_bits» = calibrationIn f .bits;
   order = f .order;
   «header_length» = f .header;
-  gain = ofBits binary64 (f .gain);
-  constant = ofBits binary64 (f .constant);
+  gain = calibrationIn f .gain;
+  constant = calibrationIn f .constant;
 }
 shownFile (refuses (turned n b)) = refusedFile n b
 
 abbrev pub calibrated : Float → Float → ℕ → Calibration
 calibrated g k b = record { gain = g; constant = k; bits = b }
+
+-- what a file is read by, as C holds it
+abbrev pub calibrationC : HsdFile → Calibration
+calibrationC f = calibrated (f .gain) (f .constant) (f .«valid_bits»)
 
 abbrev pub noRadiance : ℕ → HsdReading
 noRadiance k = record { radiance = zero; kind = k }

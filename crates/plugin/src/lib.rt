@@ -1,6 +1,4 @@
 // What the compositors' plug-in calls from C, thin over the proved library.
-pub mod strips;
-
 use accept::Answer;
 use calendar::FilmFrame;
 use reading::Calibration;
@@ -8,11 +6,11 @@ use reading::Reading;
 ghost use mathlib.Core.Path.{_≡_};
 ghost use Rattle.accept.specs.Answers.{answerOf};
 ghost use Rattle.calendar.specs.Dates.{dayOf};
-ghost use Rattle.calendar.specs.Shots.{frameOf};
+ghost use Rattle.calendar.specs.Shots.{filmFrameOf};
 ghost use Rattle.reading.specs.Counts.{readingOf};
 ghost use Rattle.format.specs.Bands.{bandOf};
 ghost use Rattle.format.specs.Names.{dayOr0};
-ghost use Rattle.plugin.specs.Plugin.{refusedFile, shownFile, calibrated, noRadiance, shownReading, shownFrame};
+ghost use Rattle.plugin.specs.Plugin.{refusedFile, shownFile, calibrated, calibrationC, noRadiance, shownReading, shownFrame};
 
 // refusal is 0 for an accepted file, and everything after block is 0 for a refused one.
 #[repr(C)]
@@ -47,26 +45,29 @@ pub extern "C" fn hsd_accept(file: &[u8]) -> HsdFile
 {
     let answer = accept::accept(file);
     match answer {
-        Answer::Accepted(f) => HsdFile {
-            refusal: 0,
-            block: 0,
-            satellite: f.satellite,
-            quality: f.quality,
-            day: f.day,
-            timeline: f.timeline,
-            band: f.band,
-            area: f.area,
-            columns: f.columns,
-            lines: f.lines,
-            number: f.number,
-            total: f.total,
-            first_line: f.first,
-            valid_bits: f.bits,
-            order: f.order,
-            header_length: f.header,
-            gain: reading::float_of(f.gain),
-            constant: reading::float_of(f.constant),
-        },
+        Answer::Accepted(f) => {
+            let cal = accept::calibration(f);
+            HsdFile {
+                refusal: 0,
+                block: 0,
+                satellite: f.satellite,
+                quality: f.quality,
+                day: f.day,
+                timeline: f.timeline,
+                band: f.band,
+                area: f.area,
+                columns: f.columns,
+                lines: f.lines,
+                number: f.number,
+                total: f.total,
+                first_line: f.first,
+                valid_bits: cal.bits,
+                order: f.order,
+                header_length: f.header,
+                gain: cal.gain,
+                constant: cal.constant,
+            }
+        }
         Answer::Refused(t) => {
             let why = t.why;
             refused(rules::number_of(why), t.block)
@@ -128,6 +129,14 @@ pub extern "C" fn hsd_read_count(gain: f64, constant: f64, bits: u16, count: u16
     }
 }
 
+// The reading of a count by the file that it stands in: gain, constant and valid bits travel together.
+#[no_mangle]
+pub extern "C" fn hsd_reading(file: HsdFile, count: u16) -> HsdReading
+    ensures { λ r. ⌜ r ≡ shownReading (readingOf (calibrationC file) count) ⌝ }
+{
+    hsd_read_count(file.gain, file.constant, file.valid_bits, count)
+}
+
 fn no_radiance(kind: u8) -> HsdReading
     ensures { λ r. ⌜ r ≡ noRadiance kind ⌝ }
 {
@@ -152,7 +161,7 @@ pub extern "C" fn hsd_frame_number(
     day: u32,
     timeline: u16,
 ) -> HsdFrameNumber
-    ensures { λ r. ⌜ r ≡ shownFrame (frameOf «first_day» «first_timeline» day timeline) ⌝ }
+    ensures { λ r. ⌜ r ≡ shownFrame (filmFrameOf «first_day» «first_timeline» day timeline) ⌝ }
 {
     let frame = calendar::frame_number(first_day, first_timeline, day, timeline);
     match frame {

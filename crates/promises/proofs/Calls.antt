@@ -17,10 +17,10 @@ use Rattle.header.specs.Encode.{Entries}
 use Rattle.header.specs.Entries.{entriesOf}
 use Rattle.accept.specs.Checks.{checks}
 use Rattle.reader.specs.declared.HeaderRead.{HeaderRead}
-use Rattle.reader.specs.Reads.{ReadAs, Shifts, Times, Errors, rooms2, rooms3, ruled, filled}
+use Rattle.reader.specs.Reads.{ReadAs, Shifts, Times, Errors, rooms2, rooms3, readRuling, filled}
 use Rattle.writer.specs.Given.{Wrote}
 use Rattle.tiling.proofs.Back.{long}
-use Rattle.promises.specs.Calls.{Read, four, Written, written}
+use Rattle.promises.specs.Calls.{Read, allFour, Written, written}
 
 pub fine-is : (v : Verdict) → paper v ≡ fine → v ≡ Fine
 unfolding paper
@@ -32,7 +32,7 @@ unfolding filled after
 front r n new l out h g e = rw (e, g) (take-at new (drop n l) n h)
 
 module _ (s : List ℕ) (g : judge fine (checks s) ≡ fine) where
-  roomy : (rooms : List Row) → Holds rooms → ruled s rooms ≡ fine
+  roomy : (rooms : List Row) → Holds rooms → readRuling s rooms ≡ fine
   roomy rooms h = exactly (tables (checks s ∷ rooms ∷ [])) .1 (each-of _ (holds (exactly (checks s) .0 g) (holds h tt)))
 
   values : (r : HeaderRead) → ReadAs s r → (r .verdict ≡ Fine) × (r .header ≡ headerOf s)
@@ -78,7 +78,7 @@ pub record Got (s : List ℕ) (w : Verdict) (ws : List Verdict) (v : Header) (e 
   pub entries : e ≡ entriesOf s
 
 pub got : {s : List ℕ} {w : Verdict} {ws : List Verdict} {v : Header} {e : Entries} → Read s w ws v e → judge fine (checks s) ≡ fine → Got s w ws v e
-got {s} (four κ₁ a₁ r₁ t₁ p₁ e₁ κ₈ a₈ r₈ t₈ p₈ e₈ l₈ x₈ y₈ κ₉ a₉ r₉ t₉ p₉ e₉ l₉ x₉ κ a r t p e l x) g =
+got {s} (allFour κ₁ a₁ r₁ t₁ p₁ e₁ κ₈ a₈ r₈ t₈ p₈ e₈ l₈ x₈ y₈ κ₉ a₉ r₉ t₉ p₉ e₉ l₉ x₉ κ a r t p e l x) g =
     let h₁ = values s g r₁ (rw e₁ at p₁) in
     let h₈ = shifts s g _ _ _ r₈ _ _ _ (rw e₈ at p₈) l₈ x₈ y₈ in
     let h₉ = times s g _ _ r₉ _ _ (rw e₉ at p₉) l₉ x₉ in
@@ -101,7 +101,7 @@ got {s} (four κ₁ a₁ r₁ t₁ p₁ e₁ κ₈ a₈ r₈ t₈ p₈ e₈ l₈
 -- where the first reader says Fine, no check fails
 pub fine-read : {s : List ℕ} {w : Verdict} {ws : List Verdict} {v : Header} {e : Entries} → Read s w ws v e → w ≡ Fine → judge fine (checks s) ≡ fine
 unfolding paper
-fine-read (four κ₁ a₁ r₁ t₁ p₁ e₁ κ₈ a₈ r₈ t₈ p₈ e₈ l₈ x₈ y₈ κ₉ a₉ r₉ t₉ p₉ e₉ l₉ x₉ κ a r t p e l x) q =
+fine-read (allFour κ₁ a₁ r₁ t₁ p₁ e₁ κ₈ a₈ r₈ t₈ p₈ e₈ l₈ x₈ y₈ κ₉ a₉ r₉ t₉ p₉ e₉ l₉ x₉ κ a r t p e l x) q =
     ap (λ (s : List ℕ). judge fine (checks s)) (sym e₁) ∙ sym (p₁ .says) ∙ ap paper q
 
 pub wrote : {l : List ℕ} {v : Header} {e : Entries} {r : Verdict} {out : List ℕ} → Written l v e r out → Wrote l v e r out

@@ -5,14 +5,18 @@
 use mathlib.Core.Path.{_≡_, refl, sym, _∙_}
 use mathlib.Core.Bool.{Bool, true, false, cond}
 use mathlib.Core.List.{List, [], _∷_}
-use Prim.Native.Nat.{ℕ, _≤_}
+use Prim.Native.Nat.{ℕ, _+_, _*_, _≤_}
 use native.Mathlib.Omega.{arith}
-use lib.ListN.{length}
+use lib.ListN.{length, getD}
+use lib.IntN.{pos}
 use denote.Ref.{now}
-use Rattle.rules.specs.Rules.{Turned, turned, Row, says, refused, refuses, tables, paper}
+use Rattle.rules.specs.Rules.{Turned, turned, Row, fine, says, refused, refuses, judge, tables, paper}
 use Rattle.calendar.specs.Dates.{real, dayAt, paperDay, dayOf}
-use Rattle.calendar.specs.Shots.{shot, paperSlot, slotOf, shots, paperFrame, frameOf}
+use Rattle.calendar.specs.Shots.{shot, paperSlot, slotOf, shots, paperFrame, filmFrameOf}
+use Rattle.format.specs.Texts.{pair}
+use Rattle.format.specs.Names.{digits8, dateOf}
 use Rattle.header.specs.Places.{aOf, bOf, cOf}
+use Rattle.header.specs.Values.{headerOf}
 use Rattle.accept.specs.Checks.{shape, entries, shape1, fields1, fixed2, fields2, fixed5, fields5, fields7, sums, names, ends, blocks1to4, blocks5to7, blocks8to11, whole, checks}
 use Rattle.accept.specs.Answers.{factsOf, paperAnswer, answerOf}
 use Rattle.slate.specs.Slates.{slated, paperSlate, slateOf}
@@ -22,10 +26,18 @@ use Rattle.frame.proofs.Asking.{line-length, line-some}
 use Rattle.frame.proofs.line_of.Reads as line-of
 use Rattle.writer.specs.Given.{orders, lengths8, lengths9, lengths10, room, given}
 use Rattle.reader.specs.Reads.{rooms2, rooms3, filled}
-use Rattle.plugin.specs.Strips.{slateIn, shownRuling, lent, marksIn, openedC, offeredC, openMarks, openStrip, offerMarks, offerStrip, lineC}
+use Rattle.plugin_frames.specs.Strips.{slateIn, shownRuling, longMarks, goodMarks, lent, marksIn, openedC, offeredC, openMarks, openStrip, offerMarks, offerStrip, lineC}
 use Rattle.calendar.proofs.day_of.Reads as day-of
 use Rattle.calendar.proofs.slot.Reads as slot
 use Rattle.calendar.proofs.frame_number.Reads as frame-number
+use Rattle.format.proofs.date_of.Reads as date-of
+use Rattle.accept.proofs.check_file.Reads as check-file
+use Rattle.accept.proofs.check_fields1.Reads as check-fields1
+use Rattle.accept.proofs.check_fields2.Reads as check-fields2
+use Rattle.accept.proofs.check_fields5.Reads as check-fields5
+use Rattle.accept.proofs.check_fields7.Reads as check-fields7
+use Rattle.accept.proofs.check_name.Reads as check-name
+use Rattle.slate.proofs.Slate.check.Reads as check-slate
 use Rattle.accept.proofs.verdict.Reads as verdict
 use Rattle.accept.proofs.accept.Reads as accept
 use Rattle.slate.proofs.Slate.new.Reads as new
@@ -38,11 +50,12 @@ use Rattle.reader.proofs.read_times.Reads as read-times
 use Rattle.reader.proofs.read_errors.Reads as read-errors
 use Rattle.plugin.proofs.hsd_accept.Reads as hsd-accept
 use Rattle.plugin.proofs.hsd_frame_number.Reads as hsd-frame-number
-use Rattle.plugin.proofs.strips.hsd_open.Reads as hsd-open
-use Rattle.plugin.proofs.strips.hsd_offer.Reads as hsd-offer
-use Rattle.plugin.proofs.strips.hsd_line.Reads as hsd-line
-use Rattle.promises.specs.Blocks.{allowed, allowedC, inTable}
-use Rattle.promises.proofs.Refusals.{refused-in, refuses-in, left, in-append, shown-allowed, shown-left, none-left, file-allowed, number-allowed}
+use Rattle.plugin_frames.proofs.hsd_open.Reads as hsd-open
+use Rattle.plugin_frames.proofs.hsd_offer.Reads as hsd-offer
+use Rattle.plugin_frames.proofs.hsd_line.Reads as hsd-line
+use Rattle.promises.specs.Bare.{Bare}
+use Rattle.promises.specs.Blocks.{allowed, allowedC, inTable, Onward}
+use Rattle.promises.proofs.Refusals.{refused-in, refuses-in, left, in-append, onward, shown-allowed, shown-left, none-left, file-allowed, number-allowed, bare, no-number}
 
 -- ---- every table is the paper's
 
@@ -51,11 +64,11 @@ unfolding inTable allowed tables shape entries shape1 fields1 fixed2 fields2 fix
 in-checks s = refl
 
 pub in-opening : (s : _) (size : ℕ) → inTable (opening s size) ≡ true
-unfolding inTable allowed opening
+unfolding inTable allowed opening slated
 in-opening s size = refl
 
 pub in-offering : (s : _) (marks : _) (size : ℕ) (f : List ℕ) → inTable (offering s marks size f) ≡ true
-unfolding inTable allowed tables ready placing offering
+unfolding inTable allowed tables ready slated placing offering
 in-offering s marks size f = in-append (checks f) _ (in-checks f) refl
 
 in-given : (v : _) (e : _) (n : ℕ) → inTable (given v e n) ≡ true
@@ -75,6 +88,34 @@ pub of-accept : (κ : _) (a : _) (r : _) (t : _) → accept.Post κ a r t → (u
 unfolding answerOf
 of-accept κ a r t p u e = refuses-in (checks (now (a .0))) (in-checks (now (a .0))) (factsOf (now (a .0))) u (sym p ∙ e)
 
+-- the checks that go on from a verdict
+pub of-check-file : (κ : _) (a : _) (r : _) (t : _) → check-file.Post κ a r t → Onward (paper (a .0)) (paper r)
+of-check-file κ a r t p = onward (checks (now (a .1 .0))) (in-checks (now (a .1 .0))) p
+
+pub of-check-fields1 : (κ : _) (a : _) (r : _) (t : _) → check-fields1.Post κ a r t → Onward (paper (a .0)) (paper r)
+unfolding fields1 inTable allowed
+of-check-fields1 κ a r t p = onward (fields1 (a .1 .0)) refl p
+
+pub of-check-fields2 : (κ : _) (a : _) (r : _) (t : _) → check-fields2.Post κ a r t → Onward (paper (a .0)) (paper r)
+unfolding fields2 inTable allowed
+of-check-fields2 κ a r t p = onward (fields2 (a .1 .0)) refl p
+
+pub of-check-fields5 : (κ : _) (a : _) (r : _) (t : _) → check-fields5.Post κ a r t → Onward (paper (a .0)) (paper r)
+unfolding fields5 inTable allowed
+of-check-fields5 κ a r t p = onward (fields5 (a .1 .0)) refl p
+
+pub of-check-fields7 : (κ : _) (a : _) (r : _) (t : _) → check-fields7.Post κ a r t → Onward (paper (a .0)) (paper r)
+unfolding fields7 inTable allowed
+of-check-fields7 κ a r t p = onward (fields7 (a .1 .0) (a .1 .1 .0)) refl p
+
+pub of-check-name : (κ : _) (a : _) (r : _) (t : _) → check-name.Post κ a r t → Onward (paper (a .0)) (paper r)
+unfolding names inTable allowed
+of-check-name κ a r t p = onward (names (a .1 .0) (a .1 .1 .0) (a .1 .1 .1 .0)) refl p
+
+pub of-check-slate : (κ : _) (a : _) (r : _) (t : _) → check-slate.Post κ a r t → Onward (paper (a .1 .0)) (paper r)
+unfolding slated inTable allowed
+of-check-slate κ a r t p = onward (slated (a .0)) refl p
+
 -- ---- values
 
 pub of-day : (κ : _) (a : _) (r : _) (t : _) → day-of.Post κ a r t → (u : Turned) → paperDay r ≡ refuses u → allowed u ≡ true
@@ -85,12 +126,24 @@ of-day κ a r t p u e = told (real (a .0) (a .1 .0) (a .1 .1 .0)) (dayAt (a .0) 
     told true n e = absurd (let z : _≡_ {A = ℕ} 0 1 = cc in omega arith)
     told false n e = let q : turned 10 1 ≡ u = cc in rw (← q)
 
+pub of-date : (κ : _) (a : _) (r : _) (t : _) → date-of.Post κ a r t → (u : Turned) → paperDay r ≡ refuses u → allowed u ≡ true
+unfolding dateOf dayOf allowed
+of-date κ a r t p u e =
+    let two : ℕ → ℕ = λ at. pair (getD (a .0) at 0) (getD (a .0) (at + 1) 0) in
+    let year = two 7 * 100 + two 9 in
+    told (digits8 (a .0)) (real year (two 11) (two 13)) (dayAt year (two 11) (two 13)) (sym p ∙ e)
+  where
+    told : (b c : Bool) (n : ℕ) → cond b (cond c (says n) (refuses (turned 10 1))) (refuses (turned 10 1)) ≡ refuses u → allowed u ≡ true
+    told true true n e = absurd (let z : _≡_ {A = ℕ} 0 1 = cc in omega arith)
+    told true false n e = let q : turned 10 1 ≡ u = cc in rw (← q)
+    told false c n e = let q : turned 10 1 ≡ u = cc in rw (← q)
+
 pub of-slot : (κ : _) (a : _) (r : _) (t : _) → slot.Post κ a r t → (u : Turned) → paperSlot r ≡ refuses u → allowed u ≡ true
 unfolding slotOf shot inTable allowed
 of-slot κ a r t p u e = refuses-in (shot (a .0) (a .1 .0)) refl _ u (sym p ∙ e)
 
 pub of-frame-number : (κ : _) (a : _) (r : _) (t : _) → frame-number.Post κ a r t → (u : Turned) → paperFrame r ≡ refuses u → allowed u ≡ true
-unfolding frameOf shots inTable allowed
+unfolding filmFrameOf shots inTable allowed
 of-frame-number κ a r t p u e = refuses-in (shots (a .0) (a .1 .0) (a .1 .1 .0) (a .1 .1 .1 .0)) refl _ u (sym p ∙ e)
 
 pub of-slate : (κ : _) (a : _) (r : _) (t : _) → new.Post κ a r t → (u : Turned) → paperSlate r ≡ refuses u → allowed u ≡ true
@@ -132,8 +185,12 @@ of-write κ a r t p u e =
     let q = sym (p .says) ∙ e in
     (refused-in (given _ _ _) (in-given _ _ _) u q, p .leaves ∙ left _ u _ _ q)
 
-pub of-read : (κ : _) (a : _) (r : _) (t : _) → read.Post κ a r t → (u : Turned) → paper (r .verdict) ≡ refused u → allowed u ≡ true
-of-read κ a r t p u e = refused-in (checks (now (a .0))) (in-checks (now (a .0))) u (sym (p .says) ∙ e)
+-- the values of a refused file are those of no bytes
+pub of-read : (κ : _) (a : _) (r : _) (t : _) → read.Post κ a r t → (u : Turned) → paper (r .verdict) ≡ refused u
+    → (allowed u ≡ true) × (r .header ≡ headerOf [])
+of-read κ a r t p u e =
+    let q = sym (p .says) ∙ e in
+    (refused-in (checks (now (a .0))) (in-checks (now (a .0))) u q, p .is ∙ left _ u _ _ q)
 
 pub of-shifts : (κ : _) (a : _) (r : _) (t : _) → read-shifts.Post κ a r t → (u : Turned) → paper r ≡ refused u
     → (allowed u ≡ true) × ((now (t .1 .0) ≡ now (a .1 .0)) × ((now (t .1 .1 .0) ≡ now (a .1 .1 .0)) × (now (t .1 .1 .1 .0) ≡ now (a .1 .1 .1 .0))))
@@ -164,17 +221,20 @@ of-errors κ a r t p u e =
 
 -- ---- from C: marks, frame and output
 
-pub in-lent : (m : List ℕ) (rs : List Row) → inTable rs ≡ true → inTable (tables (lent m ∷ rs ∷ [])) ≡ true
+pub in-lent : (ok : Bool) (rs : List Row) → inTable rs ≡ true → inTable (tables (lent ok ∷ rs ∷ [])) ≡ true
 unfolding lent tables inTable allowed
-in-lent m rs h = in-append rs [] h refl
+in-lent ok rs h = in-append rs [] h refl
 
-pub of-hsd-accept : (κ : _) (a : _) (r : _) (t : _) → hsd-accept.Post κ a r t → allowedC (r .refusal) (r .block) ≡ true
+pub of-hsd-accept : (κ : _) (a : _) (r : _) (t : _) → hsd-accept.Post κ a r t → (allowedC (r .refusal) (r .block) ≡ true) × ((r .refusal ≡ 0 → ⊥) → Bare r)
 unfolding answerOf
-of-hsd-accept κ a r t p = rw p (file-allowed (checks (now (a .0))) (in-checks (now (a .0))) _ (factsOf (now (a .0))) refl)
+of-hsd-accept κ a r t p =
+    rw p (file-allowed (checks (now (a .0))) (in-checks (now (a .0))) _ (factsOf (now (a .0))) refl, bare (judge fine (checks (now (a .0)))) (factsOf (now (a .0))))
 
-pub of-hsd-frame-number : (κ : _) (a : _) (r : _) (t : _) → hsd-frame-number.Post κ a r t → allowedC (r .refusal) (r .block) ≡ true
-unfolding frameOf shots inTable allowed
-of-hsd-frame-number κ a r t p = rw p (number-allowed (shots (a .0) (a .1 .0) (a .1 .1 .0) (a .1 .1 .1 .0)) refl _ _ refl)
+pub of-hsd-frame-number : (κ : _) (a : _) (r : _) (t : _) → hsd-frame-number.Post κ a r t → (allowedC (r .refusal) (r .block) ≡ true) × ((r .refusal ≡ 0 → ⊥) → r .number ≡ pos 0)
+unfolding filmFrameOf shots inTable allowed
+of-hsd-frame-number κ a r t p =
+    let rows = shots (a .0) (a .1 .0) (a .1 .1 .0) (a .1 .1 .1 .0) in
+    rw p (number-allowed rows refl _ _ refl, no-number (judge fine rows) _)
 
 pub of-hsd-open : (κ : _) (a : _) (r : _) (t : _) → hsd-open.Post κ a r t
     → (allowedC (r .refusal) (r .block) ≡ true) × ((r .refusal ≡ 0 → ⊥) → (now (t .1 .0) ≡ now (a .1 .0)) × (now (t .1 .1 .0) ≡ now (a .1 .1 .0)))
@@ -183,7 +243,7 @@ of-hsd-open κ a r t p =
     let m = now (a .1 .0) in
     let size = length (now (a .1 .1 .0)) in
     let v = openedC (a .0) m size in (
-      rw (p .0) (shown-allowed (tables (lent m ∷ opening (slateIn (a .0)) size ∷ [])) (in-lent m _ (in-opening _ _)) v refl),
+      rw (p .0) (shown-allowed (tables (lent (longMarks m) ∷ opening (slateIn (a .0)) size ∷ [])) (in-lent (longMarks m) _ (in-opening _ _)) v refl),
       λ h. let n : shownRuling v .refusal ≡ 0 → ⊥ = λ z. h (rw (p .0) z) in (p .1 .0 ∙ shown-left v _ _ n, p .1 .1 ∙ shown-left v _ _ n),
     )
 
@@ -195,7 +255,7 @@ of-hsd-offer κ a r t p =
     let size = length (now (a .1 .1 .0)) in
     let f = now (a .1 .1 .1 .0) in
     let v = offeredC (a .0) m size f in (
-      rw (p .0) (shown-allowed (tables (lent m ∷ offering (slateIn (a .0)) (marksIn m) size f ∷ [])) (in-lent m _ (in-offering _ _ _ _)) v refl),
+      rw (p .0) (shown-allowed (tables (lent (goodMarks m) ∷ offering (slateIn (a .0)) (marksIn m) size f ∷ [])) (in-lent (goodMarks m) _ (in-offering _ _ _ _)) v refl),
       λ h. let n : shownRuling v .refusal ≡ 0 → ⊥ = λ z. h (rw (p .0) z) in (p .1 .0 ∙ shown-left v _ _ n, p .1 .1 ∙ shown-left v _ _ n),
     )
 

@@ -19,8 +19,8 @@ use Rattle.assembly.specs.History.{File, alreadies, placed, bears, came, Apart,
 use Rattle.assembly.specs.Runs.{Call, files, rulings, Ran, Asked}
 use Rattle.assembly.proofs.Demand.{apart-agree}
 use Rattle.assembly.proofs.Runs as runs
-use Rattle.plugin.specs.declared.strips.HsdSlate.{HsdSlate}
-use Rattle.plugin.specs.Strips.{slateIn, shownRuling, marksIn}
+use Rattle.plugin_frames.specs.declared.HsdSlate.{HsdSlate}
+use Rattle.plugin_frames.specs.Strips.{slateIn, shownRuling, marksIn}
 use Rattle.promises.specs.Runs.{Offer, filesOf, RanC, AskedC}
 use Rattle.promises.proofs.Runs.{Lifted, lifted, Copied}
 use Rattle.promises.proofs.Runs as from

@@ -3,7 +3,9 @@ pub mod OneAnswer
 pub mod Cases
 pub mod Refusals
 pub mod Demand1
+pub mod First
 pub mod Calls
+pub mod Told
 pub mod Demand2
 pub mod Runs
 pub mod Demand3

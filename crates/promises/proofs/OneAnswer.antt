@@ -22,7 +22,7 @@ use Rattle.wire.proofs.put4.Reads as put4
 use Rattle.wire.proofs.put40.Reads as put40
 use Rattle.wire.proofs.put256.Reads as put256
 use Rattle.wire.proofs.put_byte.Reads as put-byte
-use Rattle.wire.proofs.four.Reads as four
+use Rattle.wire.proofs.four_bytes.Reads as four-bytes
 use Rattle.wire.proofs.put_u16.Reads as put-u16
 use Rattle.wire.proofs.put_u32.Reads as put-u32
 use Rattle.wire.proofs.put_u64.Reads as put-u64
@@ -62,6 +62,7 @@ use Rattle.accept.proofs.check_name.Reads as check-name
 use Rattle.accept.proofs.accept.Reads as accept
 use Rattle.accept.proofs.check_file.Reads as check-file
 use Rattle.accept.proofs.facts_of.Reads as facts-of
+use Rattle.accept.proofs.calibration.Reads as calibration
 use Rattle.slate.proofs.Slate.new.Reads as slate-new
 use Rattle.slate.proofs.Slate.check.Reads as slate-check
 use Rattle.slate.proofs.Slate.is_good.Reads as is-good
@@ -79,22 +80,27 @@ use Rattle.slate.proofs.Slate.matches.Reads as slate-matches
 use Rattle.frame.proofs.empty.Reads as empty
 use Rattle.frame.proofs.is_marked.Reads as is-marked
 use Rattle.frame.proofs.tally.Reads as tally
+use Rattle.frame.proofs.one.Reads as one
 use Rattle.frame.proofs.open.Reads as opening
 use Rattle.frame.proofs.offer.Reads as offering
 use Rattle.frame.proofs.line_of.Reads as line-of
 use Rattle.plugin.proofs.hsd_accept.Reads as hsd-accept
 use Rattle.plugin.proofs.hsd_read_count.Reads as hsd-read-count
+use Rattle.plugin.proofs.hsd_reading.Reads as hsd-reading
 use Rattle.plugin.proofs.hsd_frame_number.Reads as hsd-frame-number
 use Rattle.plugin.proofs.hsd_day.Reads as hsd-day
 use Rattle.plugin.proofs.hsd_valid_bits.Reads as hsd-valid-bits
-use Rattle.plugin.proofs.strips.hsd_open.Reads as hsd-open
-use Rattle.plugin.proofs.strips.hsd_offer.Reads as hsd-offer
-use Rattle.plugin.proofs.strips.hsd_line.Reads as hsd-line
+use Rattle.plugin_frames.proofs.hsd_open.Reads as hsd-open
+use Rattle.plugin_frames.proofs.hsd_offer.Reads as hsd-offer
+use Rattle.plugin_frames.proofs.hsd_line.Reads as hsd-line
 use Rattle.header.proofs.a_of.Reads as a-of
 use Rattle.header.proofs.b_of.Reads as b-of
 use Rattle.header.proofs.c_of.Reads as c-of
 use Rattle.header.proofs.header_length.Reads as header-length
 use Rattle.header.proofs.data_length.Reads as data-length
+use Rattle.header.proofs.place9.Reads as place9
+use Rattle.header.proofs.place10.Reads as place10
+use Rattle.header.proofs.place11.Reads as place11
 use Rattle.header.proofs.read_block8.Reads as read-block8
 use Rattle.header.proofs.read_header.Reads as read-header
 use Rattle.accept.proofs.verdict.Reads as verdict
@@ -154,8 +160,8 @@ put256-one κ a x y s t p q = p .is ∙ sym (q .is)
 pub put-byte-one : One (λ κ x s. now (s .0)) put-byte.Post
 put-byte-one κ a x y s t p q = p .is ∙ sym (q .is)
 
-pub four-one : One (λ κ x s. x) four.Post
-four-one κ a x y s t p q = p ∙ sym q
+pub four-bytes-one : One (λ κ x s. x) four-bytes.Post
+four-bytes-one κ a x y s t p q = p ∙ sym q
 
 pub put-u16-one : One (λ κ x s. now (s .0)) put-u16.Post
 put-u16-one κ a x y s t p q = p .is ∙ sym (q .is)
@@ -274,6 +280,9 @@ check-file-one κ a x y s t p q = paper-one x y (p ∙ sym q)
 pub facts-of-one : One (λ κ x s. x) facts-of.Post
 facts-of-one κ a x y s t p q = p ∙ sym q
 
+pub calibration-one : One (λ κ x s. x) calibration.Post
+calibration-one κ a x y s t p q = p ∙ sym q
+
 pub slate-new-one : One (λ κ x s. x) slate-new.Post
 slate-new-one κ a x y s t p q = paperSlate-one x y (p ∙ sym q)
 
@@ -322,6 +331,9 @@ is-marked-one κ a x y s t p q = p ∙ sym q
 pub tally-one : One (λ κ x s. x) tally.Post
 tally-one κ a x y s t p q = p ∙ sym q
 
+pub one-one : One (λ κ x s. x) one.Post
+one-one κ a x y s t p q = p .0 ∙ sym (q .0)
+
 -- the verdict with the newest record, and every count of the frame afterwards
 pub empty-one : One (λ κ x s. x) empty.Post
 empty-one κ a x y s t p q i = record { marks = (p ∙ sym q) i }
@@ -347,6 +359,9 @@ hsd-accept-one κ a x y s t p q = p ∙ sym q
 pub hsd-read-count-one : One (λ κ x s. x) hsd-read-count.Post
 hsd-read-count-one κ a x y s t p q = p ∙ sym q
 
+pub hsd-reading-one : One (λ κ x s. x) hsd-reading.Post
+hsd-reading-one κ a x y s t p q = p ∙ sym q
+
 pub hsd-frame-number-one : One (λ κ x s. x) hsd-frame-number.Post
 hsd-frame-number-one κ a x y s t p q = p ∙ sym q
 
@@ -370,6 +385,15 @@ header-length-one κ a x y s t p q = p ∙ sym q
 
 pub data-length-one : One (λ κ x s. x) data-length.Post
 data-length-one κ a x y s t p q = p ∙ sym q
+
+pub place9-one : One (λ κ x s. x) place9.Post
+place9-one κ a x y s t p q = p ∙ sym q
+
+pub place10-one : One (λ κ x s. x) place10.Post
+place10-one κ a x y s t p q = p ∙ sym q
+
+pub place11-one : One (λ κ x s. x) place11.Post
+place11-one κ a x y s t p q = p ∙ sym q
 
 pub read-block8-one : One (λ κ x s. x) read-block8.Post
 read-block8-one κ a x y s t p q = p ∙ sym q

@@ -1,6 +1,6 @@
 -- Laws of refusals: they are the paper's table's, and what is lent stays as it was.
 -- Assumes nothing.
-use mathlib.Core.Path.{_≡_, refl, sym, _∙_}
+use mathlib.Core.Path.{_≡_, refl, sym, ap, _∙_}
 use mathlib.Core.Bool.{Bool, true, false, cond, and-eq-true-iff, or-true}
 use mathlib.Core.List.{List, [], _∷_, _++_}
 use Prim.Native.Nat.{ℕ}
@@ -9,11 +9,12 @@ use Rattle.rules.specs.Rules.{Turned, turned, Row, test, Ruling, fine, refused,
 use Rattle.rules.proofs.Judge.{judge-refused, turned-away}
 use lib.Dec.{eqb, leb}
 use lib.ListN.{length, drop}
-use lib.IntN.{ℤ}
+use lib.IntN.{ℤ, pos}
 use Rattle.accept.specs.declared.Facts.{Facts}
 use Rattle.plugin.specs.Plugin.{shownFile, shownFrame}
-use Rattle.plugin.specs.Strips.{shownRuling, copiedOf, copyOf}
-use Rattle.promises.specs.Blocks.{allowed, allowedC, inTable}
+use Rattle.plugin_frames.specs.Strips.{shownRuling, copiedOf, copyOf}
+use Rattle.promises.specs.Bare.{Bare}
+use Rattle.promises.specs.Blocks.{allowed, allowedC, inTable, Onward}
 
 same-turned : (t u : Turned) → refused t ≡ refused u → t ≡ u
 same-turned t u e = cc
@@ -42,6 +43,13 @@ in-append (test ok t ∷ xs) ys h k =
 pub left : {A : Type 0} (r : Ruling) (t : Turned) (old new : A) → r ≡ refused t → after r old new ≡ old
 unfolding after
 left r t old new e = rw e
+
+-- checks on top of what was checked before
+pub onward : (rs : List Row) → inTable rs ≡ true → {v r : Ruling} → r ≡ judge v rs → Onward v r
+onward rs h {v} {r} e = record {
+  kept = λ u q. e ∙ ap (λ (w : Ruling). judge w rs) q ∙ judge-refused u rs;
+  new = λ q u f. refused-in rs h u (sym (ap (λ (w : Ruling). judge w rs) q) ∙ sym e ∙ f);
+}
 
 -- ---- in C's numbers
 
@@ -77,3 +85,41 @@ pub number-allowed : (rs : List Row) → inTable rs ≡ true → (v : Ruling) (x
 unfolding shownFrame reply
 number-allowed rs h fine x e = refl
 number-allowed rs h (refused (turned n b)) x e = rw (refused-in rs h (turned n b) (sym e)) (or-true (eqb n 0))
+
+-- what is shown of no refusal is none
+none-fine : (n b : ℕ) → allowed (turned n b) ≡ true → n ≡ 0 → ⊥
+unfolding allowed
+none-fine n b h e = let z : allowed (turned 0 b) ≡ true = rw e at h in let q : _≡_ {A = ℕ} 0 1 = cc in omega arith
+
+pub file-fine : (rs : List Row) → inTable rs ≡ true → (v : Ruling) (x : Facts) → v ≡ judge fine rs → shownFile (reply v x) .refusal ≡ 0 → v ≡ fine
+unfolding shownFile reply
+file-fine rs h fine x e z = refl
+file-fine rs h (refused (turned n b)) x e z = absurd (none-fine n b (refused-in rs h (turned n b) (sym e)) z)
+
+-- the answer to a refused file, and a frame number that is refused, show nothing else
+pub bare : (v : Ruling) (x : Facts) → (shownFile (reply v x) .refusal ≡ 0 → ⊥) → Bare (shownFile (reply v x))
+unfolding shownFile reply
+bare fine x h = absurd (h refl)
+bare (refused (turned n b)) x h = record {
+  satellite = refl;
+  quality = refl;
+  day = refl;
+  timeline = refl;
+  band = refl;
+  area = refl;
+  columns = refl;
+  lines = refl;
+  number = refl;
+  total = refl;
+  first-line = refl;
+  valid-bits = refl;
+  order = refl;
+  header-length = refl;
+  gain = refl;
+  constant = refl;
+}
+
+pub no-number : (v : Ruling) (x : ℤ) → (shownFrame (reply v x) .refusal ≡ 0 → ⊥) → shownFrame (reply v x) .number ≡ pos 0
+unfolding shownFrame reply
+no-number fine x h = absurd (h refl)
+no-number (refused (turned n b)) x h = refl

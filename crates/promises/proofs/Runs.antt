@@ -16,10 +16,10 @@ use Rattle.rules.proofs.Judge.{exactly, each-is}
 use Rattle.rules.proofs.Paper.{named, refusalOf, verdictOf}
 use Rattle.slate.specs.declared.Slate.{Slate}
 use Rattle.slate.specs.Cut.{coverOf}
-use Rattle.slate.specs.Slates.{goodSlate, frameLines, frameSize}
+use Rattle.slate.specs.Slates.{goodSlate, slated, frameLines, frameSize}
 use Rattle.frame.specs.Counts.{countsOf}
 use Rattle.frame.specs.declared.Record.{Record}
-use Rattle.frame.specs.Records.{oneOf, noMarks, marked, mark}
+use Rattle.frame.specs.Records.{pass, oneOf, noMarks, marked, mark}
 use Rattle.frame.specs.Frames as frames
 use Rattle.frame.specs.Lines.{lineOf}
 use Rattle.assembly.specs.History.{File, bears, came, Apart, Agree, alone, lineIn, withinOf}
@@ -27,10 +27,10 @@ use Rattle.assembly.specs.Runs as library
 use Rattle.assembly.proofs.Demand.{apart-perm}
 use Rattle.assembly.proofs.Runs as runs
 use Rattle.tiling.proofs.Lawful.{below}
-use Rattle.plugin.specs.declared.strips.HsdSlate.{HsdSlate}
-use Rattle.plugin.specs.declared.strips.HsdAnswer.{HsdAnswer}
-use Rattle.plugin.specs.Strips.{slateIn, shownRuling, bits, goodMarks, lent, flags, marksIn, marksOut, openedC, offeredC, openMarks, openStrip, offerMarks, lineC, copiedOf, copyOf}
-use Rattle.plugin.proofs.Lending.{lent-good, offer-strip}
+use Rattle.plugin_frames.specs.declared.HsdSlate.{HsdSlate}
+use Rattle.plugin_frames.specs.declared.HsdAnswer.{HsdAnswer}
+use Rattle.plugin_frames.specs.Strips.{slateIn, shownRuling, longMarks, isBit, bitsFrom, goodMarks, lent, flags, marksIn, marksOut, openedC, offeredC, openMarks, openStrip, offerMarks, lineC, copiedOf, copyOf}
+use Rattle.plugin_frames.proofs.Lending.{lent-good, offer-strip}
 use Rattle.promises.specs.Blocks.{allowed}
 use Rattle.promises.specs.Runs.{Offer, filesOf, answersOf, RanC, opened, offered, AskedC, asked}
 use Rattle.promises.proofs.Refusals.{refused-in}
@@ -69,14 +69,14 @@ one-most : (b : Bool) → oneOf b ≤ 1
 one-most true = omega arith
 one-most false = omega arith
 
-bits-out : (marks : List Bool) (k n : ℕ) → k + n ≤ 99 → bits (marksOut marks) k n ≡ true
+bits-out : (marks : List Bool) (k n : ℕ) → k + n ≤ 99 → pass isBit 0 (marksOut marks) k n ≡ true
 bits-out marks k zero h = refl
 bits-out marks k (suc n) h =
     let e = getD-tab (λ i. oneOf (getD marks i false)) 99 k (omega arith) in
     rw (e, le-leb (oneOf (getD marks k false)) 1 (one-most (getD marks k false))) (bits-out marks (k + 1) n (omega arith))
 
 good-out : (marks : List Bool) → goodMarks (marksOut marks) ≡ true
-unfolding goodMarks
+unfolding goodMarks bitsFrom
 good-out marks = and-eq-true-iff _ _ .1 (eq-eqb _ 99 (length-tab (λ k. oneOf (getD marks k false)) 99), bits-out marks 0 99 (omega arith))
 
 -- ---- a ruling of the paper's table is some verdict's
@@ -197,15 +197,15 @@ long-after fine marks k = simp length-set
 long-after (refused u) marks k = refl
 
 pub lifted : {s : HsdSlate} {lent : List ℕ} {cs : List Offer} {marks frame : List ℕ} → RanC s lent cs marks frame → Lifted s lent cs marks frame
-unfolding openMarks openStrip offerMarks frames.opening frames.recordAfter verdictOf paper after
+unfolding openMarks openStrip offerMarks frames.opening slated frames.recordAfter verdictOf paper after
 lifted (opened κ a r t p es el z) =
     let strip = now (a .1 .1 .0) in
     let m = now (a .1 .0) in
     let slate = slateIn (a .0) in
     let rows = frames.opening slate (length strip) in
-    let in-rows = refused-in (tables (lent m ∷ rows ∷ [])) (in-lent m rows (in-opening slate (length strip))) in
+    let in-rows = refused-in (tables (lent (longMarks m) ∷ rows ∷ [])) (in-lent (longMarks m) rows (in-opening slate (length strip))) in
     let good : openedC (a .0) m (length strip) ≡ fine = shown-fine _ in-rows (rw (p .0) at z) in
-    let each = each-is (lent m ∷ rows ∷ []) (exactly (tables (lent m ∷ rows ∷ [])) .0 good) in
+    let each = each-is (lent (longMarks m) ∷ rows ∷ []) (exactly (tables (lent (longMarks m) ∷ rows ∷ [])) .0 good) in
     record {
       calls = [];
       newest = record { marks = noMarks };
@@ -230,7 +230,7 @@ lifted (offered run κ a r t p es em ef) =
     let back : marksIn m ≡ marks = ap marksIn out ∙ marks-back marks (l .long) in
     let good : goodMarks m ≡ true = rw out (good-out marks) in
     let same : offeredC (a .0) m (length strip) f ≡ ruling =
-    lent-good m (frames.offering slate (marksIn m) (length strip) f) good ∙ ap (λ (k : List Bool). frames.offered slate k (length strip) f) back in
+    lent-good (goodMarks m) (frames.offering slate (marksIn m) (length strip) f) good ∙ ap (λ (k : List Bool). frames.offered slate k (length strip) f) back in
     let said : paper (verdictOf ruling) ≡ ruling = paper-back ruling (refused-in (frames.offering slate marks (length strip) f) (in-offering slate marks (length strip) f)) in
     let after-it = frames.recordAfter slate marks (length strip) f in
     record {

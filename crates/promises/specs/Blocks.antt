@@ -1,9 +1,10 @@
 -- The refusals of the paper's table, each with the blocks that it shows.
 use Prim.Native.Nat.{ℕ}
+use mathlib.Core.Path.{_≡_}
 use mathlib.Core.Bool.{Bool, true, false, cond, _&&_, _||_}
 use mathlib.Core.List.{List, [], _∷_}
 use lib.Dec.{eqb, leb}
-use Rattle.rules.specs.Rules.{Turned, turned, Row, test}
+use Rattle.rules.specs.Rules.{Turned, turned, Row, test, Ruling, fine, refused}
 
 -- 1 SHORT, 2 NUMBER and 4 LENGTH: block k; 5 FIXED; 6 PACKED; 7 FIELD; 11 CUT and 12 TAIL; 13 SLATE to 17 ROOM; the others: block 1
 abbrev blocksOf : ℕ → List ℕ
@@ -32,3 +33,8 @@ inTable (test ok t ∷ rs) = allowed t && inTable rs
 -- the same in C's numbers, where 0 is no refusal
 abbrev pub allowedC : ℕ → ℕ → Bool
 allowedC n b = eqb n 0 || allowed (turned n b)
+
+-- checks made on top of a ruling v came to r: what was refused before stays so, and a new refusal is one of the table's
+pub record Onward (v r : Ruling) : Type 0 where
+  pub kept : (u : Turned) → v ≡ refused u → r ≡ refused u
+  pub new : v ≡ fine → (u : Turned) → r ≡ refused u → allowed u ≡ true

@@ -25,7 +25,7 @@ pub data Answered (s : List ℕ) : Answer → Type 0 where
 -- All four readers were called on the file s, over slices with room for its entries. These are the verdict on its values, the verdicts on the entries of blocks 8, 9 and 10,
 -- the values, and the entries, which stand first in the slices.
 pub data Read (s : List ℕ) : Verdict → List Verdict → Header → Entries → Type 0 where
-  four :
+  allFour :
       (κ₁ : _) (a₁ : _) (r₁ : _) (t₁ : _) → read.Post κ₁ a₁ r₁ t₁ → now (a₁ .0) ≡ s
       → (κ₈ : _) (a₈ : _) (r₈ : _) (t₈ : _) → read-shifts.Post κ₈ a₈ r₈ t₈ → now (a₈ .0) ≡ s
       → aOf s ≤ length (now (a₈ .1 .0)) → aOf s ≤ length (now (a₈ .1 .1 .0)) → aOf s ≤ length (now (a₈ .1 .1 .1 .0))

@@ -9,7 +9,7 @@ use Rattle.rules.specs.Rules.{turned, Ruling, fine, refused, judge, Reply, says
 use Rattle.header.specs.Places.{length8, length9, length10, headerLength}
 use Rattle.writer.specs.Given.{lengths8}
 use Rattle.calendar.specs.Dates.{dayOf}
-use Rattle.calendar.specs.Shots.{slotOf, frameOf}
+use Rattle.calendar.specs.Shots.{slotOf, filmFrameOf}
 use Rattle.reading.specs.declared.Reading.{Reading}
 use Rattle.reading.specs.declared.Reading.the-variants.{Radiance, Outside, OverRange, Uncalibrated}
 use Rattle.reading.specs.Counts.{readingOf}
@@ -41,7 +41,7 @@ Holds (written8 a r) = judge fine (lengths8 a a a) ≡ r
 Holds (count g k bits n r) = readingOf (record { gain = g; constant = k; bits = bits }) n ≡ r
 Holds (date y m d r) = dayOf y m d ≡ r
 Holds (slot d t r) = slotOf d t ≡ r
-Holds (film d₀ t₀ d t r) = frameOf d₀ t₀ d t ≡ r
+Holds (film d₀ t₀ d t r) = filmFrameOf d₀ t₀ d t ≡ r
 
 abbrev pub All : List Case → Type 0
 All [] = Unit

@@ -4,11 +4,11 @@ use mathlib.Core.Path.{_≡_}
 use mathlib.Core.List.{List, [], _∷_, map}
 use denote.Ref.{now}
 use Rattle.assembly.specs.History.{File}
-use Rattle.plugin.specs.declared.strips.HsdSlate.{HsdSlate}
-use Rattle.plugin.specs.declared.strips.HsdAnswer.{HsdAnswer}
-use Rattle.plugin.proofs.strips.hsd_open.Reads as opening
-use Rattle.plugin.proofs.strips.hsd_offer.Reads as offering
-use Rattle.plugin.proofs.strips.hsd_line.Reads as asking
+use Rattle.plugin_frames.specs.declared.HsdSlate.{HsdSlate}
+use Rattle.plugin_frames.specs.declared.HsdAnswer.{HsdAnswer}
+use Rattle.plugin_frames.proofs.hsd_open.Reads as opening
+use Rattle.plugin_frames.proofs.hsd_offer.Reads as offering
+use Rattle.plugin_frames.proofs.hsd_line.Reads as asking
 
 -- an offer that C made
 pub record Offer : Type 0 where

@@ -8,21 +8,21 @@ use Rattle.rules.specs.Rules.{Row, Turned, Ruling, fine, refused, judge, after,
 use Rattle.rules.proofs.Judge.{Holds, exactly, tried, table, last, each-is}
 use Rattle.accept.specs.Checks.{checks}
 use Rattle.header.specs.Entries.{column}
-use Rattle.reader.specs.Reads.{rooms2, rooms3, ruled, filled}
+use Rattle.reader.specs.Reads.{rooms2, rooms3, readRuling, filled}
 
 -- the verdict, and then the rooms for as many numbers as the file has
-pub ruling : (s : List ℕ) (rooms : ℕ → List Row) {r q : Ruling} {m n : ℕ} → r ≡ judge fine (checks s) → q ≡ judge r (rooms m) → m ≡ n → q ≡ ruled s (rooms n)
+pub ruling : (s : List ℕ) (rooms : ℕ → List Row) {r q : Ruling} {m n : ℕ} → r ≡ judge fine (checks s) → q ≡ judge r (rooms m) → m ≡ n → q ≡ readRuling s (rooms n)
 ruling s rooms e f g = tried (table e (table (f ∙ rw g) last))
 
 -- where none fails, there is room
-roomy : (s : List ℕ) (rooms : List Row) → ruled s rooms ≡ fine → Holds rooms
+roomy : (s : List ℕ) (rooms : List Row) → readRuling s rooms ≡ fine → Holds rooms
 roomy s rooms e = each-is (checks s ∷ rooms ∷ []) (exactly (tables (checks s ∷ rooms ∷ [])) .0 e) .1 .0
 
-pub roomy2 : (s : List ℕ) {m n x y : ℕ} → ruled s (rooms2 n x y) ≡ fine → m ≡ n → (m ≤ x) × (m ≤ y)
+pub roomy2 : (s : List ℕ) {m n x y : ℕ} → readRuling s (rooms2 n x y) ≡ fine → m ≡ n → (m ≤ x) × (m ≤ y)
 unfolding rooms2
 roomy2 s e f = let h = roomy s _ e in rw f (leb-true _ _ (h .0), leb-true _ _ (h .1 .0))
 
-pub roomy3 : (s : List ℕ) {m n x y z : ℕ} → ruled s (rooms3 n x y z) ≡ fine → m ≡ n → (m ≤ x) × (m ≤ y) × (m ≤ z)
+pub roomy3 : (s : List ℕ) {m n x y z : ℕ} → readRuling s (rooms3 n x y z) ≡ fine → m ≡ n → (m ≤ x) × (m ≤ y) × (m ≤ z)
 unfolding rooms3
 roomy3 s e f = let h = roomy s _ e in rw f (leb-true _ _ (h .0), leb-true _ _ (h .1 .0), leb-true _ _ (h .1 .1 .0))
 

@@ -88,7 +88,10 @@ pub fn read_shifts(
     column_shifts: &mut [u32],
     line_shifts: &mut [u32],
 ) -> Verdict
-    ensures { λ r. ⌜ Shifts (now (file .entry)) (now (lines .entry)) (now («column_shifts» .entry)) (now («line_shifts» .entry)) r (now (lines .exit)) (now («column_shifts» .exit)) (now («line_shifts» .exit)) ⌝ }
+    ensures { λ r. ⌜
+        Shifts (now (file .entry)) (now (lines .entry)) (now («column_shifts» .entry)) (now («line_shifts» .entry)) r
+        (now (lines .exit)) (now («column_shifts» .exit)) (now («line_shifts» .exit))
+        ⌝ }
 {
     let order = wire::byte_at(file, 5);
     let n = header::a_of(file) as usize;
@@ -110,7 +113,7 @@ pub fn read_times(file: &[u8], lines: &mut [u16], times: &mut [u64]) -> Verdict
     ensures { λ r. ⌜ Times (now (file .entry)) (now (lines .entry)) (now (times .entry)) r (now (lines .exit)) (now (times .exit)) ⌝ }
 {
     let order = wire::byte_at(file, 5);
-    let at = 1112 + 10 * (header::a_of(file) as usize);
+    let at = header::place9(header::a_of(file));
     let n = header::b_of(file) as usize;
     let v = accept::verdict(file);
     let v = check_rooms2(v, n, lines.len(), times.len());
@@ -129,9 +132,7 @@ pub fn read_errors(file: &[u8], lines: &mut [u16], pixels: &mut [u16]) -> Verdic
     ensures { λ r. ⌜ Errors (now (file .entry)) (now (lines .entry)) (now (pixels .entry)) r (now (lines .exit)) (now (pixels .exit)) ⌝ }
 {
     let order = wire::byte_at(file, 5);
-    let a = header::a_of(file) as usize;
-    let b = header::b_of(file) as usize;
-    let at = 1157 + 10 * a + 10 * b;
+    let at = header::place10(header::a_of(file), header::b_of(file));
     let n = header::c_of(file) as usize;
     let v = accept::verdict(file);
     let v = check_rooms2(v, n, lines.len(), pixels.len());

@@ -6,7 +6,7 @@ use mathlib.Core.Logic.{_↔_}
 use mathlib.Core.Bool.{Bool, true, false}
 use Prim.Native.Nat.{ℕ}
 use native.Mathlib.Omega.{arith}
-use Rattle.rules.specs.Rules.{Row, test, Turned, checked, judge, tables, Ruling, fine, refused, Reply, says, refuses, reply}
+use Rattle.rules.specs.Rules.{Row, test, Turned, checked, judge, First, here, later, tables, Ruling, fine, refused, Reply, says, refuses, reply}
 
 pub judge-append : (v : Ruling) (xs ys : List Row) → judge v (xs ++ ys) ≡ judge (judge v xs) ys
 judge-append v [] ys = refl
@@ -50,6 +50,21 @@ holds-fine (test ok t ∷ rs) h = rw (h .0, holds-fine rs (h .1))
 -- all rows hold exactly when nothing is refused
 pub exactly : (rs : List Row) → (judge fine rs ≡ fine) ↔ Holds rs
 exactly rs = (fine-holds rs, holds-fine rs)
+
+first-is : (rs : List Row) (u : Turned) → judge fine rs ≡ refused u → First rs u
+unfolding checked
+first-is [] u e = absurd (let z : _≡_ {A = ℕ} 0 1 = cc in omega arith)
+first-is (test true t ∷ rs) u e = later refl (first-is rs u e)
+first-is (test false t ∷ rs) u e = let q : refused t ≡ refused u = sym (judge-refused t rs) ∙ e in let z : t ≡ u = cc in rw (← z) (here refl)
+
+first-of : {rs : List Row} {u : Turned} → First rs u → judge fine rs ≡ refused u
+unfolding checked
+first-of (here {u = u} {rs = rs} e) = rw e (judge-refused u rs)
+first-of (later e f) = rw e (first-of f)
+
+-- the first check that fails answers
+pub first-fails : (rs : List Row) (u : Turned) → (judge fine rs ≡ refused u) ↔ First rs u
+first-fails rs u = (first-is rs u, first-of)
 
 -- a run of checks, from v to r: each test as the code makes it, and as the table has it
 pub data Judged : Ruling → List Row → Ruling → Type 0 where

@@ -1,5 +1,6 @@
 -- Refusals in the paper's own numbers, and tables of checks: the first that fails answers.
 use Prim.Native.Nat.{ℕ}
+use mathlib.Core.Path.{_≡_}
 use mathlib.Core.List.{List, [], _∷_, _++_}
 use mathlib.Core.Bool.{Bool, true, false}
 use Rattle.rules.specs.declared.Why.{Why}
@@ -61,6 +62,11 @@ checked fine false t = refused t
 abbrev pub judge : Ruling → List Row → Ruling
 judge v [] = v
 judge v (test ok t ∷ rs) = judge (checked v ok t) rs
+
+-- the first row that fails shows u: every row before it holds
+pub data First : List Row → Turned → Type 0 where
+  here : {ok : Bool} {u : Turned} {rs : List Row} → ok ≡ false → First (test ok u ∷ rs) u
+  later : {ok : Bool} {t u : Turned} {rs : List Row} → ok ≡ true → First rs u → First (test ok t ∷ rs) u
 
 -- tables one after the other
 unfoldable pub tables : List (List Row) → List Row

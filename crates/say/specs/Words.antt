@@ -5,12 +5,12 @@ use mathlib.Core.Bool.{cond}
 use lib.ListN.{length, getD, take}
 use lib.Dec.{eqb}
 use Rattle.rules.specs.Rules.{Ruling, fine, refused}
-use Rattle.listing.specs.Lines.{refusalOf}
+use Rattle.listing.specs.Lines.{refusalWords}
 
 -- what a verdict says: the word for what was done, or what its refusal says
 unfoldable pub spoken : Ruling → List ℕ → List ℕ
 spoken fine done = done
-spoken (refused t) done = refusalOf t
+spoken (refused t) done = refusalWords t
 
 -- how many of the first n bytes of s there are up to the last that is no blank
 unfoldable pub used : List ℕ → ℕ → ℕ

@@ -18,6 +18,11 @@ use Rattle.slate.specs.declared.Slate.{Slate}
 pub mul-most : (a b m n : ℕ) → a ≤ m → b ≤ n → a * b ≤ m * n
 mul-most a b m n ha hb = le-trans (mul-le-mul-left a hb) (mul-le-mul-right n ha)
 
+-- what grows from each number to the next grows from each to every later one
+pub rising : (f : ℕ → ℕ) → ((n : ℕ) → f n ≤ f (suc n)) → (k n : ℕ) → k ≤ n → f k ≤ f n
+rising f up k zero h = let e : k ≡ 0 = omega arith in rw e (omega arith)
+rising f up k (suc n) h = ⊎-elim (λ e. rw e (omega arith)) (λ l. le-trans (rising f up k n (le-of-suc-le-suc l)) (up n)) (eq-or-lt-of-le h)
+
 pub lines-none : (s : Slate) → linesTo s 0 ≡ 0
 unfolding linesTo
 lines-none s = omega arith
@@ -25,10 +30,6 @@ lines-none s = omega arith
 pub lines-more : (s : Slate) (n : ℕ) → linesTo s (suc n) ≡ linesTo s n + heightOf s (suc n)
 unfolding linesTo heightOf
 lines-more s n = suc-mul n (s .lines)
-
-pub cut-lines : (s : Slate) → goodCut s ≡ true → frameLines s ≤ 22000
-unfolding goodCut
-cut-lines s e = leb-true _ _ (and-eq-true-iff (leb 1 (s .lines)) _ .0 e .1)
 
 pub tall : (s : Slate) → goodCut s ≡ true → 1 ≤ s .lines
 unfolding goodCut
@@ -56,9 +57,8 @@ covers s line g a b =
 
 -- ---- of any cut
 
-pub lines-below : (s : Slate) (k n : ℕ) → k ≤ n → linesTo s k ≤ linesTo s n
-lines-below s k zero h = let e : k ≡ 0 = omega arith in rw e (omega arith)
-lines-below s k (suc n) h = ⊎-elim (λ e. rw e (omega arith)) (λ l. omega (arith, lines-more s n, lines-below s k n (le-of-suc-le-suc l))) (eq-or-lt-of-le h)
+lines-below : (s : Slate) (k n : ℕ) → k ≤ n → linesTo s k ≤ linesTo s n
+lines-below s = rising (linesTo s) (λ n. omega (arith, lines-more s n))
 
 -- segment n lies within the frame
 pub strip-room : (s : Slate) (n : ℕ) → 1 ≤ n → n ≤ s .total → startOf s n + sizeOf s n ≤ frameSize s
@@ -77,7 +77,6 @@ line-room s line a b =
 
 pub record Good (s : Slate) : Type 0 where
   pub columns : 1 ≤ s .columns
-  pub wide : s .columns ≤ 22000
   pub total : 1 ≤ s .total
   pub most : s .total ≤ 99
   pub cut : goodCut s ≡ true
@@ -91,7 +90,6 @@ good s e =
     let w = and-eq-true-iff (leb 1 (s .columns)) _ .0 (and-eq-true-iff (goodShot s) (goodSize (s .columns)) .0 (e6 .0) .1) in
     record {
       columns = leb-true 1 (s .columns) (w .0);
-      wide = leb-true (s .columns) 22000 (w .1);
       total = leb-true 1 (s .total) (t .0);
       most = leb-true (s .total) 99 (t .1);
       cut = e7 .1;

@@ -35,6 +35,19 @@ unfoldable pub paperSlate : Slated → Reply Slate
 paperSlate (Made s) = says s
 paperSlate (Refused t) = refuses (paperOf t)
 
+-- the parts of a slate, in the paper's order
+abbrev pub partsOf : ℕ → ℕ → ℕ → ℕ → ℕ → ℕ → ℕ → ℕ → Slate
+partsOf satellite day timeline band area columns total lines = record {
+  satellite = satellite;
+  day = day;
+  timeline = timeline;
+  band = band;
+  area = area;
+  columns = columns;
+  total = total;
+  lines = lines;
+}
+
 -- the slate of given parts, or the refusal
 unfoldable pub slateOf : Slate → Reply Slate
 slateOf s = reply (judge fine (slated s)) s

@@ -8,7 +8,7 @@ ghost use Prim.Native.Nat.{_+_, _*_, _-_, _≤_};
 ghost use Rattle.wire.specs.Wire.{digits};
 ghost use Rattle.rules.specs.Rules.{paper, judge};
 ghost use Rattle.slate.specs.Cut.{heightOf, linesTo, goodCut};
-ghost use Rattle.slate.specs.Slates.{goodSlate, slated, paperSlate, slateOf, sizeOf, startOf, frameLines, frameSize, placeOf, hasLine, coverOr0, sameShot, sameCut, matching};
+ghost use Rattle.slate.specs.Slates.{goodSlate, slated, paperSlate, partsOf, slateOf, sizeOf, startOf, frameLines, frameSize, placeOf, hasLine, coverOr0, sameShot, sameCut, matching};
 
 // A line and a column of the frame, both counted from 1; neither stands for the other.
 pub struct Line(pub u16);
@@ -58,7 +58,7 @@ impl Slate {
         total: u8,
         lines: u16,
     ) -> Slated
-        ensures { λ r. ⌜ paperSlate r ≡ slateOf (record { satellite = satellite; day = day; timeline = timeline; band = band; area = area; columns = columns; total = total; lines = lines }) ⌝ }
+        ensures { λ r. ⌜ paperSlate r ≡ slateOf (partsOf satellite day timeline band area columns total lines) ⌝ }
     {
         let slate = Slate {
             satellite,

@@ -10,7 +10,7 @@ use Rattle.wire.proofs.Rows.{length-tab, getD-tab, rows-span}
 use Rattle.wire.proofs.Pieces.{part, end, parts-join, span-front, digits-span}
 use Rattle.header.specs.Places.{orderOf, aOf, bOf, cOf, at9, at10, at11, headerLength, lengthOf}
 use Rattle.header.specs.Values.{block1Of, block2Of, block5Of, block7Of, block8Of, headerOf}
-use Rattle.header.specs.Encode.{bytes1, bytes2, carrying, bytes5, bytes7, entry8, entry9, entry10, bytes8, bytes9, bytes10, encode}
+use Rattle.header.specs.Encode.{bytes1, bytes2, carrying, bytes5, bytes7, entry8, entry9, entry10, bytes8, bytes9, bytes10, frontBlocks, backBlocks, blocksOf, encode}
 use Rattle.header.specs.Entries.{column, entriesOf}
 use Rattle.accept.proofs.Tables.{Accepted, dataOf}
 
@@ -199,7 +199,7 @@ module _ (s : List ℕ) (b : Bytes s) (h : Accepted s) where
 
   -- the eleven blocks, and then the rest
   pub back : encode (headerOf s) (entriesOf s) ++ drop (lengthOf s) s ≡ s
-  unfolding encode headerOf entriesOf block1Of
+  unfolding encode blocksOf frontBlocks backBlocks headerOf entriesOf block1Of
   back =
       let p11 = at11 a n9 n10 in
       let q9 : p9 ≡ 1051 + (61 + 10 * a) = omega arith in

@@ -9,7 +9,7 @@ use lib.ListN.{length, getD, replicate}
 use Rattle.wire.specs.Wire.{Bytes, lows, digits, join, rows}
 use Rattle.rules.proofs.Judge.{holds}
 use Rattle.header.specs.declared.Header.{Header}
-use Rattle.header.specs.Encode.{Entries, bytes1, bytes2, carrying, bytes5, bytes7, entry8, entry9, entry10, bytes8, bytes9, bytes10, encode}
+use Rattle.header.specs.Encode.{Entries, bytes1, bytes2, carrying, bytes5, bytes7, entry8, entry9, entry10, bytes8, bytes9, bytes10, frontBlocks, backBlocks, blocksOf, encode}
 use Rattle.tiling.specs.Made.{Fit}
 
 cons : (x : ℕ) (l : List ℕ) → x < 256 → Bytes l → (i : ℕ) → getD (x ∷ l) i 0 < 256
@@ -171,7 +171,7 @@ module _ (v : Header) (e : Entries) (f : Fit v e) where
       (holds (f .spare10 .bytes) tt)))))
 
   pub encoded : Bytes (encode v e)
-  unfolding encode
+  unfolding encode blocksOf frontBlocks backBlocks
   encoded =
       of-join _
       (holds (of1 _ _)

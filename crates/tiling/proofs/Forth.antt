@@ -14,7 +14,7 @@ use Rattle.header.specs.declared.Header.{Header}
 use Rattle.header.specs.Places.{orderOf, aOf, bOf, cOf, at9, at10, at11, headerLength, lengthOf, dataLength}
 use Rattle.header.specs.Values.{block1Of, block2Of, block5Of, block7Of, block8Of, headerOf}
 use Rattle.header.specs.Entries.{column, entriesOf}
-use Rattle.header.specs.Encode.{Entries, bytes1, bytes2, carrying, bytes5, bytes7, entry8, entry9, entry10, bytes8, bytes9, bytes10, encode}
+use Rattle.header.specs.Encode.{Entries, bytes1, bytes2, carrying, bytes5, bytes7, entry8, entry9, entry10, bytes8, bytes9, bytes10, frontBlocks, backBlocks, blocksOf, encode}
 use Rattle.accept.specs.Checks.{fields1, fields2, fields5, fields7, names}
 use Rattle.writer.proofs.Good.{Good}
 use Rattle.tiling.specs.Made.{Fit, Numbers}
@@ -104,40 +104,25 @@ module _ (v : Header) (e : Entries) (t : List ℕ) (f : Fit v e) (g : Good v e) 
   abbrev widths : List ℕ
   widths = 282 ∷ 50 ∷ 127 ∷ 139 ∷ 147 ∷ 259 ∷ 47 ∷ (61 + 10 * a) ∷ (45 + 10 * b) ∷ (47 + 4 * c) ∷ 259 ∷ []
 
-  abbrev pieces : List (List ℕ)
-  pieces =
-      bytes1 (v .block1) header counts
-      ∷ bytes2 o (v .block2)
-      ∷ carrying 3 o 127 (v .carried3)
-      ∷ carrying 4 o 139 (v .carried4)
-      ∷ bytes5 o (v .block5)
-      ∷ carrying 6 o 259 (v .carried6)
-      ∷ bytes7 o (v .block7)
-      ∷ bytes8 o (v .block8) (e .lines8) (e .columnShifts) (e .lineShifts)
-      ∷ bytes9 o (v .spare9) (e .lines9) (e .times)
-      ∷ bytes10 o (v .spare10) (e .lines10) (e .pixels)
-      ∷ carrying 11 o 259 (v .spare11)
-      ∷ []
-
   -- each block stands in its place
-  blocks : Reads s 0 widths pieces
-  unfolding encode
-  blocks = reads widths pieces [] t s 0 refl refl
+  blocks : Reads s 0 widths (blocksOf v e)
+  unfolding encode blocksOf frontBlocks backBlocks
+  blocks = reads widths (blocksOf v e) [] t s 0 refl refl
       (length1, (length2, (length-carrying 3 124 127 (v .carried3) (f .carried3 .long) refl, (length-carrying 4 136 139 (v .carried4) (f .carried4 .long) refl, (length5, (length-carrying 6 256 259 (v .carried6) (f .carried6 .long) refl, (length7, (length8, (length9, (length10, (length-carrying 11 256 259 (v .spare11) (f .spare11 .long) refl, tt)))))))))))
 
   pub long-header : length (encode v e) ≡ header
-  unfolding encode join
+  unfolding encode blocksOf frontBlocks backBlocks join
   long-header = simp (length-append, length1, length2, length-carrying 3 124 127 (v .carried3) (f .carried3 .long) refl, length-carrying 4 136 139 (v .carried4) (f .carried4 .long) refl, length5, length-carrying 6 256 259 (v .carried6) (f .carried6 .long) refl, length7, length8, length9, length10, length-carrying 11 256 259 (v .spare11) (f .spare11 .long) refl) (omega arith)
 
   whole : length s ≡ header + counts
   whole = length-append (encode v e) t ∙ omega (arith, long-header, size)
 
   reads1 : Reads s 0 (1 ∷ 2 ∷ 2 ∷ 1 ∷ 16 ∷ 16 ∷ 4 ∷ 2 ∷ 2 ∷ 8 ∷ 8 ∷ 8 ∷ 4 ∷ 4 ∷ 1 ∷ 1 ∷ 1 ∷ 1 ∷ 32 ∷ 128 ∷ 40 ∷ []) ((1 ∷ []) ∷ digits o 2 282 ∷ digits o 2 11 ∷ (o ∷ []) ∷ v .block1 .satellite ∷ v .block1 .centre ∷ v .block1 .area ∷ v .block1 .other ∷ digits o 2 (v .block1 .timeline) ∷ digits o 8 (v .block1 .started) ∷ digits o 8 (v .block1 .ended) ∷ digits o 8 (v .block1 .created) ∷ digits o 4 header ∷ digits o 4 counts ∷ (v .block1 .quality1 ∷ []) ∷ (v .block1 .quality2 ∷ []) ∷ (v .block1 .quality3 ∷ []) ∷ (v .block1 .quality4 ∷ []) ∷ v .block1 .version ∷ v .block1 .name ∷ v .block1 .spare ∷ [])
-  unfolding bytes1
+  unfolding bytes1 blocksOf frontBlocks backBlocks
   reads1 = inside (1 ∷ 2 ∷ 2 ∷ 1 ∷ 16 ∷ 16 ∷ 4 ∷ 2 ∷ 2 ∷ 8 ∷ 8 ∷ 8 ∷ 4 ∷ 4 ∷ 1 ∷ 1 ∷ 1 ∷ 1 ∷ 32 ∷ 128 ∷ 40 ∷ []) _ s 0 282 (blocks .0) (refl, (length-digits _ _ _, (length-digits _ _ _, (refl, (f .block1 .satellite .long, (f .block1 .centre .long, (f .block1 .area .long, (f .block1 .other .long, (length-digits _ _ _, (length-digits _ _ _, (length-digits _ _ _, (length-digits _ _ _, (length-digits _ _ _, (length-digits _ _ _, (refl, (refl, (refl, (refl, (f .block1 .version .long, (f .block1 .name .long, (f .block1 .spare .long, tt))))))))))))))))))))) (omega arith)
 
   reads2 : Reads s 282 (1 ∷ 2 ∷ 2 ∷ 2 ∷ 2 ∷ 1 ∷ 40 ∷ []) ((2 ∷ []) ∷ digits o 2 50 ∷ digits o 2 16 ∷ digits o 2 (v .block2 .columns) ∷ digits o 2 (v .block2 .lines) ∷ (v .block2 .compression ∷ []) ∷ v .block2 .spare ∷ [])
-  unfolding bytes2
+  unfolding bytes2 blocksOf frontBlocks backBlocks
   reads2 = inside (1 ∷ 2 ∷ 2 ∷ 2 ∷ 2 ∷ 1 ∷ 40 ∷ []) _ s 282 50 (blocks .1 .0) (refl, (length-digits _ _ _, (length-digits _ _ _, (length-digits _ _ _, (length-digits _ _ _, (refl, (f .block2 .spare .long, tt))))))) (omega arith)
 
   reads-carrying : (k at n m : ℕ) (l : List ℕ) → length l ≡ n → 3 + n ≡ m → span s at m ≡ carrying k o m l → Reads s at (1 ∷ 2 ∷ n ∷ []) ((k ∷ []) ∷ digits o 2 m ∷ l ∷ [])
@@ -145,24 +130,27 @@ module _ (v : Header) (e : Entries) (t : List ℕ) (f : Fit v e) (g : Good v e) 
   reads-carrying k at n m l h q r = inside (1 ∷ 2 ∷ n ∷ []) _ s at m r (refl, (length-digits _ _ _, (h, tt))) (omega arith)
 
   reads3 : Reads s 332 (1 ∷ 2 ∷ 124 ∷ []) ((3 ∷ []) ∷ digits o 2 127 ∷ v .carried3 ∷ [])
+  unfolding blocksOf frontBlocks backBlocks
   reads3 = reads-carrying 3 332 124 127 (v .carried3) (f .carried3 .long) refl (blocks .1 .1 .0)
 
   reads4 : Reads s 459 (1 ∷ 2 ∷ 136 ∷ []) ((4 ∷ []) ∷ digits o 2 139 ∷ v .carried4 ∷ [])
+  unfolding blocksOf frontBlocks backBlocks
   reads4 = reads-carrying 4 459 136 139 (v .carried4) (f .carried4 .long) refl (blocks .1 .1 .1 .0)
 
   reads5 : Reads s 598 (1 ∷ 2 ∷ 2 ∷ 8 ∷ 2 ∷ 2 ∷ 2 ∷ 8 ∷ 8 ∷ 112 ∷ []) ((5 ∷ []) ∷ digits o 2 147 ∷ digits o 2 (v .block5 .band) ∷ digits o 8 (v .block5 .wavelength) ∷ digits o 2 (v .block5 .bits) ∷ digits o 2 65535 ∷ digits o 2 65534 ∷ digits o 8 (v .block5 .gain) ∷ digits o 8 (v .block5 .constant) ∷ v .block5 .carried ∷ [])
-  unfolding bytes5
+  unfolding bytes5 blocksOf frontBlocks backBlocks
   reads5 = inside (1 ∷ 2 ∷ 2 ∷ 8 ∷ 2 ∷ 2 ∷ 2 ∷ 8 ∷ 8 ∷ 112 ∷ []) _ s 598 147 (blocks .1 .1 .1 .1 .0) (refl, (length-digits _ _ _, (length-digits _ _ _, (length-digits _ _ _, (length-digits _ _ _, (length-digits _ _ _, (length-digits _ _ _, (length-digits _ _ _, (length-digits _ _ _, (f .block5 .carried .long, tt)))))))))) (omega arith)
 
   reads6 : Reads s 745 (1 ∷ 2 ∷ 256 ∷ []) ((6 ∷ []) ∷ digits o 2 259 ∷ v .carried6 ∷ [])
+  unfolding blocksOf frontBlocks backBlocks
   reads6 = reads-carrying 6 745 256 259 (v .carried6) (f .carried6 .long) refl (blocks .1 .1 .1 .1 .1 .0)
 
   reads7 : Reads s 1004 (1 ∷ 2 ∷ 1 ∷ 1 ∷ 2 ∷ 40 ∷ []) ((7 ∷ []) ∷ digits o 2 47 ∷ (v .block7 .total ∷ []) ∷ (v .block7 .number ∷ []) ∷ digits o 2 (v .block7 .first) ∷ v .block7 .spare ∷ [])
-  unfolding bytes7
+  unfolding bytes7 blocksOf frontBlocks backBlocks
   reads7 = inside (1 ∷ 2 ∷ 1 ∷ 1 ∷ 2 ∷ 40 ∷ []) _ s 1004 47 (blocks .1 .1 .1 .1 .1 .1 .0) (refl, (length-digits _ _ _, (refl, (refl, (length-digits _ _ _, (f .block7 .spare .long, tt)))))) (omega arith)
 
   reads8 : Reads s 1051 (1 ∷ 2 ∷ 4 ∷ 4 ∷ 8 ∷ 2 ∷ 10 * a ∷ 40 ∷ []) ((8 ∷ []) ∷ digits o 2 (61 + 10 * a) ∷ digits o 4 (v .block8 .column) ∷ digits o 4 (v .block8 .line) ∷ digits o 8 (v .block8 .rotation) ∷ digits o 2 a ∷ rows row8 a ∷ v .block8 .spare ∷ [])
-  unfolding bytes8
+  unfolding bytes8 blocksOf frontBlocks backBlocks
   reads8 = inside (1 ∷ 2 ∷ 4 ∷ 4 ∷ 8 ∷ 2 ∷ 10 * a ∷ 40 ∷ []) _ s 1051 (61 + 10 * a) (blocks .1 .1 .1 .1 .1 .1 .1 .0) (refl, (length-digits _ _ _, (length-digits _ _ _, (length-digits _ _ _, (length-digits _ _ _, (length-digits _ _ _, (length-rows row8 10 a long8, (f .block8 .spare .long, tt)))))))) (omega arith)
 
   to9 : 1051 + (61 + 10 * a) ≡ at9 a
@@ -175,14 +163,15 @@ module _ (v : Header) (e : Entries) (t : List ℕ) (f : Fit v e) (g : Good v e) 
   to11 = omega arith
 
   reads9 : Reads s (at9 a) (1 ∷ 2 ∷ 2 ∷ 10 * b ∷ 40 ∷ []) ((9 ∷ []) ∷ digits o 2 (45 + 10 * b) ∷ digits o 2 b ∷ rows row9 b ∷ v .spare9 ∷ [])
-  unfolding bytes9
+  unfolding bytes9 blocksOf frontBlocks backBlocks
   reads9 = inside (1 ∷ 2 ∷ 2 ∷ 10 * b ∷ 40 ∷ []) _ s (at9 a) (45 + 10 * b) (rw to9 at (blocks .1 .1 .1 .1 .1 .1 .1 .1 .0)) (refl, (length-digits _ _ _, (length-digits _ _ _, (length-rows row9 10 b long9, (f .spare9 .long, tt))))) (omega arith)
 
   reads10 : Reads s (at10 a b) (1 ∷ 4 ∷ 2 ∷ 4 * c ∷ 40 ∷ []) ((10 ∷ []) ∷ digits o 4 (47 + 4 * c) ∷ digits o 2 c ∷ rows row10 c ∷ v .spare10 ∷ [])
-  unfolding bytes10
+  unfolding bytes10 blocksOf frontBlocks backBlocks
   reads10 = inside (1 ∷ 4 ∷ 2 ∷ 4 * c ∷ 40 ∷ []) _ s (at10 a b) (47 + 4 * c) (rw to10 at (blocks .1 .1 .1 .1 .1 .1 .1 .1 .1 .0)) (refl, (length-digits _ _ _, (length-digits _ _ _, (length-rows row10 4 c long10, (f .spare10 .long, tt))))) (omega arith)
 
   reads11 : Reads s (at11 a b c) (1 ∷ 2 ∷ 256 ∷ []) ((11 ∷ []) ∷ digits o 2 259 ∷ v .spare11 ∷ [])
+  unfolding blocksOf frontBlocks backBlocks
   reads11 = reads-carrying 11 (at11 a b c) 256 259 (v .spare11) (f .spare11 .long) refl (rw to11 at (blocks .1 .1 .1 .1 .1 .1 .1 .1 .1 .1 .0))
 
   -- the byte order and the entries' counts

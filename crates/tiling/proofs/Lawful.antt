@@ -26,7 +26,7 @@ use Rattle.writer.specs.Given.{ruled}
 use Rattle.writer.proofs.Good.{Good, good-is, good-of}
 use Rattle.tiling.specs.Made.{Fit}
 use Rattle.tiling.proofs.Forth as forth
-use Rattle.tiling.specs.Lawful.{text, two, four, Satellite, eight, nine, Series, Area, FLDK, JP, R3, R4, R5, Timeline, bands, months, Date, Named, Lawful}
+use Rattle.tiling.specs.Lawful.{text, twoDigits, fourDigits, Satellite, eight, nine, Series, Area, FLDK, JP, R3, R4, R5, Timeline, bands, months, Date, Named, Lawful}
 
 -- ---- tests
 
@@ -74,7 +74,7 @@ below P (suc n) k h b = go (eqb k n) refl (λ l. below P n k l (b .1))
 digit-is : (x : ℕ) → digit x ≡ true → (48 ≤ x) × (x ≤ 57)
 digit-is x e = let h = both (leb 48 x) (leb x 57) e in (leb-true 48 x (h .0), leb-true x 57 (h .1))
 
-two-is : (a b : ℕ) → digit a ≡ true → digit b ≡ true → two (pair a b) ≡ a ∷ b ∷ []
+two-is : (a b : ℕ) → digit a ≡ true → digit b ≡ true → twoDigits (pair a b) ≡ a ∷ b ∷ []
 two-is a b p q =
     let p = digit-is a p in
     let q = digit-is b q in
@@ -82,13 +82,13 @@ two-is a b p q =
     let y : 48 + pair a b % 10 ≡ b = omega arith in
     rw (x, y)
 
-decimal-two : (n : ℕ) → n ≤ 99 → decimal 2 n ≡ two n
+decimal-two : (n : ℕ) → n ≤ 99 → decimal 2 n ≡ twoDigits n
 unfolding decimal
 decimal-two n h =
     let x : n / 10 % 10 ≡ n / 10 = omega arith in
     rw x
 
-decimal-four : (n : ℕ) → n ≤ 9999 → decimal 4 n ≡ four n
+decimal-four : (n : ℕ) → n ≤ 9999 → decimal 4 n ≡ fourDigits n
 unfolding decimal
 decimal-four n h =
     let x : n / 10 / 10 / 10 % 10 ≡ n / 100 / 10 = omega arith in
@@ -112,7 +112,7 @@ satellite-is t e = go (eqs t _) (eqs t _) refl refl e
     go false true p q e = nine (eqs-eq t _ q)
     go false false p q e = absurd (let z : _≡_ {A = ℕ} 0 1 = cc in omega arith)
 
-satellite-of : (t : List ℕ) (n : ℕ) → Satellite t n → satelliteOf t ≡ n
+pub satellite-of : (t : List ℕ) (n : ℕ) → Satellite t n → satelliteOf t ≡ n
 unfolding satelliteOf eqs
 satellite-of t n (eight e) = rw e
 satellite-of t n (nine e) = rw e
@@ -286,7 +286,7 @@ date-of y m d h =
     and (le-leb 2000 y (h .from)) (and (le-leb y 2099 (h .to)) (and (le-leb 1 m (h .first)) (and (le-leb m 12 (h .last)) (and (le-leb 1 d (h .some))
     (le-leb d (monthLength y m) (rw (month-is y m (h .first) (h .last)) (h .most)))))))
 
-four-is : (a b c d : ℕ) → digit a ≡ true → digit b ≡ true → digit c ≡ true → digit d ≡ true → four (pair a b * 100 + pair c d) ≡ a ∷ b ∷ c ∷ d ∷ []
+four-is : (a b c d : ℕ) → digit a ≡ true → digit b ≡ true → digit c ≡ true → digit d ≡ true → fourDigits (pair a b * 100 + pair c d) ≡ a ∷ b ∷ c ∷ d ∷ []
 four-is a b c d p q r s =
     let r′ = digit-is c r in
     let s′ = digit-is d s in
@@ -302,18 +302,37 @@ grouped h d m a t z = simp (append-assoc, append-nil)
 
 spelled : (satellite : ℕ) (date : List ℕ) (timeline band : ℕ) (area : List ℕ) (number total : ℕ) → satellite ≤ 99 → timeline ≤ 9999 → band ≤ 99 → bandOf band .resolution ≤ 99 → number ≤ 99 → total ≤ 99
     → nameFor satellite date timeline band area number total
-    ≡ text "HS_H" ++ (two satellite ++ (text "_" ++ (date ++ (text "_" ++ (four timeline ++ (text "_B" ++ (two band ++ (text "_" ++ (area
-    ++ (text "_R" ++ (two (bandOf band .resolution) ++ (text "_S" ++ (two number ++ (two total ++ (text ".DAT" ++ replicate 85 0)))))))))))))))
+    ≡ text "HS_H" ++ (twoDigits satellite ++ (text "_" ++ (date ++ (text "_" ++ (fourDigits timeline ++ (text "_B" ++ (twoDigits band ++ (text "_" ++ (area
+    ++ (text "_R" ++ (twoDigits (bandOf band .resolution) ++ (text "_S" ++ (twoDigits number ++ (twoDigits total ++ (text ".DAT" ++ replicate 85 0)))))))))))))))
 unfolding nameFor spelling join
 spelled satellite date timeline band area number total hs ht hb hr hn hl =
     rw (decimal-two satellite hs, decimal-four timeline ht, decimal-two band hb, decimal-two (bandOf band .resolution) hr, decimal-two number hn, decimal-two total hl)
-    (grouped (text "HS_H" ++ (two satellite ++ text "_")) date (text "_" ++ (four timeline ++ (text "_B" ++ (two band ++ text "_")))) area
-    (text "_R" ++ (two (bandOf band .resolution) ++ (text "_S" ++ (two number ++ (two total ++ text ".DAT"))))) (replicate 85 0))
+    (grouped (text "HS_H" ++ (twoDigits satellite ++ text "_")) date (text "_" ++ (fourDigits timeline ++ (text "_B" ++ (twoDigits band ++ text "_")))) area
+    (text "_R" ++ (twoDigits (bandOf band .resolution) ++ (text "_S" ++ (twoDigits number ++ (twoDigits total ++ text ".DAT"))))) (replicate 85 0))
 
 day-is : (b c : Bool) (x : ℕ) → isDay (cond b (cond c (says x) (refuses (turned 10 1))) (refuses (turned 10 1))) ≡ true → (b ≡ true) × (c ≡ true)
 day-is true true x e = (refl, refl)
 day-is true false x e = absurd (let z : _≡_ {A = ℕ} 0 1 = cc in omega arith)
 day-is false c x e = absurd (let z : _≡_ {A = ℕ} 0 1 = cc in omega arith)
+
+-- the date that a name bears
+pub dated : {n : List ℕ} {satellite timeline band : ℕ} {area : List ℕ} {resolution number total : ℕ} (h : Named n satellite timeline band area resolution number total)
+    → dateOf n ≡ says (dayAt (h .y) (h .m) (h .d))
+unfolding dateOf dayOf
+dated {n = n} h =
+    let y = h .y in
+    let m = h .m in
+    let d = h .d in
+    let y0 = h .date .to in
+    let m0 = h .date .last in
+    let most = h .date .most in
+    let d0 = month-most y m (h .date .first) m0 in
+    let digits : digits8 n ≡ true = rw (h .is) (and (and (digit-of (y / 100 / 10) (omega arith)) (and (digit-of (y / 100 % 10) (omega arith)) (and (digit-of (y % 100 / 10) (omega arith)) (digit-of (y % 100 % 10) (omega arith)))))
+    (and (and (digit-of (m / 10) (omega arith)) (digit-of (m % 10) (omega arith))) (and (digit-of (d / 10) (omega arith)) (digit-of (d % 10) (omega arith))))) in
+    let year : pair (getD n 7 0) (getD n 8 0) * 100 + pair (getD n 9 0) (getD n 10 0) ≡ y = rw (h .is) (omega arith) in
+    let month : pair (getD n 11 0) (getD n 12 0) ≡ m = rw (h .is) (omega arith) in
+    let day : pair (getD n 13 0) (getD n 14 0) ≡ d = rw (h .is) (omega arith) in
+    rw (digits, year, month, day, date-of y m d (h .date))
 
 module _ (n : List ℕ) (satellite timeline band : ℕ) (area : List ℕ) (number total : ℕ)
     (hs : satellite ≤ 99) (ht : timeline ≤ 9999) (hb : band ≤ 99) (hr : bandOf band .resolution ≤ 99) (hn : number ≤ 99) (hl : total ≤ 99) where
@@ -338,7 +357,7 @@ module _ (n : List ℕ) (satellite timeline band : ℕ) (area : List ℕ) (numbe
       let y4 = four-is (at 7) (at 8) (at 9) (at 10) (d7 .0) (d8 .0) (d9 .0) (d9 .1) in
       let m2 = two-is (at 11) (at 12) (d11 .0) (d11 .1) in
       let d2 = two-is (at 13) (at 14) (d13 .0) (d13 .1) in
-      let date : span n 7 8 ≡ four year ++ (two month ++ two day) = λ i. sym y4 i ++ (sym m2 i ++ sym d2 i) in
+      let date : span n 7 8 ≡ fourDigits year ++ (twoDigits month ++ twoDigits day) = λ i. sym y4 i ++ (sym m2 i ++ sym d2 i) in
       record {
         y = year;
         m = month;
@@ -348,23 +367,11 @@ module _ (n : List ℕ) (satellite timeline band : ℕ) (area : List ℕ) (numbe
       }
 
   name-of : Named n satellite timeline band area (bandOf band .resolution) number total → goodName n satellite timeline band area number total ≡ true
-  unfolding goodName dateOf dayOf span
+  unfolding goodName span
   name-of h =
-      let y = h .y in
-      let m = h .m in
-      let d = h .d in
-      let y0 = h .date .to in
-      let m0 = h .date .last in
-      let most = h .date .most in
-      let d0 = month-most y m (h .date .first) m0 in
-      let date : span n 7 8 ≡ four y ++ (two m ++ two d) = rw (h .is) in
+      let date : span n 7 8 ≡ fourDigits (h .y) ++ (twoDigits (h .m) ++ twoDigits (h .d)) = rw (h .is) in
       let same = h .is ∙ sym (ap (λ (t : List ℕ). nameFor satellite t timeline band area number total) date ∙ spelled satellite _ timeline band area number total hs ht hb hr hn hl) in
-      let digits : digits8 n ≡ true = rw (h .is) (and (and (digit-of (y / 100 / 10) (omega arith)) (and (digit-of (y / 100 % 10) (omega arith)) (and (digit-of (y % 100 / 10) (omega arith)) (digit-of (y % 100 % 10) (omega arith)))))
-      (and (and (digit-of (m / 10) (omega arith)) (digit-of (m % 10) (omega arith))) (and (digit-of (d / 10) (omega arith)) (digit-of (d % 10) (omega arith))))) in
-      let year : pair (at 7) (at 8) * 100 + pair (at 9) (at 10) ≡ y = rw (h .is) (omega arith) in
-      let month : pair (at 11) (at 12) ≡ m = rw (h .is) (omega arith) in
-      let day : pair (at 13) (at 14) ≡ d = rw (h .is) (omega arith) in
-      and (eqs-same n _ same) (rw (digits, year, month, day, date-of y m d (h .date)))
+      and (eqs-same n _ same) (ap isDay (dated h))
 
 -- ---- all of it
 

@@ -17,11 +17,11 @@ abbrev pub text : String → List ℕ
 text string.[] = []
 text (string._∷_ c cs) = code c ∷ text cs
 
-abbrev pub two : ℕ → List ℕ
-two n = (48 + n / 10) ∷ (48 + n % 10) ∷ []
+abbrev pub twoDigits : ℕ → List ℕ
+twoDigits n = (48 + n / 10) ∷ (48 + n % 10) ∷ []
 
-abbrev pub four : ℕ → List ℕ
-four n = two (n / 100) ++ two (n % 100)
+abbrev pub fourDigits : ℕ → List ℕ
+fourDigits n = twoDigits (n / 100) ++ twoDigits (n % 100)
 
 -- "Himawari-8" or "Himawari-9", then six zero bytes
 pub data Satellite (t : List ℕ) : ℕ → Type 0 where
@@ -33,7 +33,7 @@ pub record Series (letters : List ℕ) (n : ℕ) (t : List ℕ) : Type 0 where
   pub k : ℕ
   pub some : 1 ≤ k
   pub most : k ≤ n
-  pub is : t ≡ letters ++ two k
+  pub is : t ≡ letters ++ twoDigits k
 
 -- FLDK, JP01 to JP04, R301 to R304, R401 to R420, R501 to R520
 pub data Area (t : List ℕ) : Type 0 where
@@ -94,8 +94,8 @@ pub record Named (name : List ℕ) (satellite timeline band : ℕ) (area : List 
   pub m : ℕ
   pub d : ℕ
   pub date : Date y m d
-  pub is : name ≡ text "HS_H" ++ (two satellite ++ (text "_" ++ ((four y ++ (two m ++ two d)) ++ (text "_" ++ (four timeline ++ (text "_B" ++ (two band ++ (text "_" ++ (area
-      ++ (text "_R" ++ (two resolution ++ (text "_S" ++ (two number ++ (two total ++ (text ".DAT" ++ replicate 85 0)))))))))))))))
+  pub is : name ≡ text "HS_H" ++ (twoDigits satellite ++ (text "_" ++ ((fourDigits y ++ (twoDigits m ++ twoDigits d)) ++ (text "_" ++ (fourDigits timeline ++ (text "_B" ++ (twoDigits band ++ (text "_" ++ (area
+      ++ (text "_R" ++ (twoDigits resolution ++ (text "_S" ++ (twoDigits number ++ (twoDigits total ++ (text ".DAT" ++ replicate 85 0)))))))))))))))
 
 pub record Lawful (v : Header) (e : Entries) : Type 0 where
   -- byte order 0 or 1

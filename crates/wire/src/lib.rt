@@ -160,26 +160,26 @@ pub fn put_byte(out: &mut [u8], at: usize, b: u8)
 pub fn put_u16(out: &mut [u8], at: usize, x: u16, order: u8)
     ensures { λ _. ⌜ Stored 2 (now (out .entry)) at (digits order 2 x) (now (out .exit)) ⌝ }
 {
-    let b = two(x, order);
+    let b = two_bytes(x, order);
     put(out, at, &b);
 }
 
 pub fn put_u32(out: &mut [u8], at: usize, x: u32, order: u8)
     ensures { λ _. ⌜ Stored 4 (now (out .entry)) at (digits order 4 x) (now (out .exit)) ⌝ }
 {
-    let b = four(x, order);
+    let b = four_bytes(x, order);
     put(out, at, &b);
 }
 
 pub fn put_u64(out: &mut [u8], at: usize, x: u64, order: u8)
     ensures { λ _. ⌜ Stored 8 (now (out .entry)) at (digits order 8 x) (now (out .exit)) ⌝ }
 {
-    let b = eight(x, order);
+    let b = eight_bytes(x, order);
     put(out, at, &b);
 }
 
 // The bytes of a number.
-fn two(x: u16, order: u8) -> [u8; 2]
+fn two_bytes(x: u16, order: u8) -> [u8; 2]
     ensures { λ r. ⌜ r ≡ digits order 2 x ⌝ }
 {
     let a = (x % 256) as u8;
@@ -187,7 +187,7 @@ fn two(x: u16, order: u8) -> [u8; 2]
     if order == 0 { [a, b] } else { [b, a] }
 }
 
-pub fn four(x: u32, order: u8) -> [u8; 4]
+pub fn four_bytes(x: u32, order: u8) -> [u8; 4]
     ensures { λ r. ⌜ r ≡ digits order 4 x ⌝ }
 {
     let a = (x % 256) as u8;
@@ -201,7 +201,7 @@ pub fn four(x: u32, order: u8) -> [u8; 4]
     }
 }
 
-fn eight(x: u64, order: u8) -> [u8; 8]
+fn eight_bytes(x: u64, order: u8) -> [u8; 8]
     ensures { λ r. ⌜ r ≡ digits order 8 x ⌝ }
 {
     let a = (x % 256) as u8;

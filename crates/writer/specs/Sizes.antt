@@ -1,10 +1,12 @@
--- The entries as they are lent, the sizes that the writer's checks leave, and the bytes of the blocks with entries.
-use Prim.Native.Nat.{ℕ, _≤_}
+-- The entries as they are lent, the sizes that the writer's checks leave, and what the parts of the writer store.
+use Prim.Native.Nat.{ℕ, _+_, _*_, _≤_}
 use mathlib.Core.Path.{_≡_}
-use mathlib.Core.List.{List, [], _∷_}
+use mathlib.Core.List.{List}
 use lib.ListN.{length}
 use Rattle.header.specs.declared.Header.{Header}
-use Rattle.header.specs.Encode.{Entries, carrying, bytes8, bytes9, bytes10}
+use Rattle.wire.specs.Wire.{join, rows, Stored}
+use Rattle.header.specs.Places.{at8}
+use Rattle.header.specs.Encode.{Entries, backBlocks, lengthFor, encode}
 
 -- of block 8 lines, column shifts and line shifts, of 9 lines and times, of 10 lines and error pixels
 abbrev pub entriesFrom : List ℕ → List ℕ → List ℕ → List ℕ → List ℕ → List ℕ → List ℕ → Entries
@@ -30,12 +32,16 @@ pub record Fits (v : Header) (e : Entries) : Type 0 where
   pub few10 : length (e .lines10) ≤ 65535
   pub ps : length (e .pixels) ≡ length (e .lines10)
 
--- blocks 8 to 11
-unfoldable pub back : Header → Entries → List (List ℕ)
-back v e =
-    let o = v .block1 .order in
-    bytes8 o (v .block8) (e .lines8) (e .columnShifts) (e .lineShifts)
-    ∷ bytes9 o (v .spare9) (e .lines9) (e .times)
-    ∷ bytes10 o (v .spare10) (e .lines10) (e .pixels)
-    ∷ carrying 11 o 259 (v .spare11)
-    ∷ []
+-- ---- what was stored in l, which gave out
+
+-- n entries of w bytes each, from at on
+abbrev pub StoredRows : ℕ → ℕ → List ℕ → ℕ → (ℕ → List ℕ) → List ℕ → Type 0
+StoredRows n w l at entry out = Stored (w * n) l at (rows entry n) out
+
+-- blocks 8 to 11, which are 412 bytes and their entries
+abbrev pub StoredBack : List ℕ → Header → Entries → List ℕ → Type 0
+StoredBack l v e out = Stored (412 + 10 * length (e .lines8) + 10 * length (e .lines9) + 4 * length (e .lines10)) l at8 (join (backBlocks v e)) out
+
+-- the whole header
+abbrev pub StoredAll : List ℕ → Header → Entries → List ℕ → Type 0
+StoredAll l v e out = Stored (lengthFor e) l 0 (encode v e) out

@@ -8,12 +8,12 @@ ghost use Prim.Native.Nat.{_+_, _*_, _<_, _≤_};
 ghost use mathlib.Core.List.{[], _∷_};
 ghost use lib.ListN.{length};
 ghost use lib.Dec.{leb};
-ghost use Rattle.wire.specs.Wire.{digits, join, rows, Stored};
+ghost use Rattle.wire.specs.Wire.{digits, join, Stored};
 ghost use Rattle.rules.specs.Rules.{judge, paper};
-ghost use Rattle.header.specs.Places.{headerLength};
-ghost use Rattle.header.specs.Encode.{carrying, entry8, entry9, entry10, bytes8, bytes9, bytes10, encode};
+ghost use Rattle.header.specs.Places.{at8, length8, length9, length10, headerLength};
+ghost use Rattle.header.specs.Encode.{carrying, entry8, entry9, entry10, bytes8, bytes9, bytes10};
 ghost use Rattle.writer.specs.Given.{orders, lengths8, lengths9, lengths10, room, ruled, Wrote};
-ghost use Rattle.writer.specs.Sizes.{entriesFrom, Fits, back};
+ghost use Rattle.writer.specs.Sizes.{entriesFrom, Fits, StoredRows, StoredBack, StoredAll};
 
 // One entry of block 8, 9 and 10.
 fn write_entry8(out: &mut [u8], at: usize, order: u8, line: u16, x: u32, y: u32)
@@ -48,7 +48,10 @@ fn write_entry10(out: &mut [u8], at: usize, order: u8, line: u16, pixels: u16)
 // The entries of a block.
 fn write_entries8(out: &mut [u8], at: usize, order: u8, ls: &[u16], xs: &[u32], ys: &[u32])
     requires { ⌜ (at < 200000) × (length (now ls) < 65536) × (length (now xs) ≡ length (now ls)) × (length (now ys) ≡ length (now ls)) ⌝ }
-    ensures { λ _. ⌜ Stored (10 * length (now (ls .entry))) (now (out .entry)) at (rows (entry8 order (now (ls .entry)) (now (xs .entry)) (now (ys .entry))) (length (now (ls .entry)))) (now (out .exit)) ⌝ }
+    ensures { λ _. ⌜
+        StoredRows (length (now (ls .entry))) 10 (now (out .entry)) at (entry8 order (now (ls .entry)) (now (xs .entry)) (now (ys .entry)))
+        (now (out .exit))
+        ⌝ }
 {
     let mut i = 0;
     while i < ls.len() {
@@ -59,7 +62,9 @@ fn write_entries8(out: &mut [u8], at: usize, order: u8, ls: &[u16], xs: &[u32], 
 
 fn write_entries9(out: &mut [u8], at: usize, order: u8, ls: &[u16], ts: &[u64])
     requires { ⌜ (at < 200000) × (length (now ls) < 65536) × (length (now ts) ≡ length (now ls)) ⌝ }
-    ensures { λ _. ⌜ Stored (10 * length (now (ls .entry))) (now (out .entry)) at (rows (entry9 order (now (ls .entry)) (now (ts .entry))) (length (now (ls .entry)))) (now (out .exit)) ⌝ }
+    ensures { λ _. ⌜
+        StoredRows (length (now (ls .entry))) 10 (now (out .entry)) at (entry9 order (now (ls .entry)) (now (ts .entry))) (now (out .exit))
+        ⌝ }
 {
     let mut i = 0;
     while i < ls.len() {
@@ -70,7 +75,9 @@ fn write_entries9(out: &mut [u8], at: usize, order: u8, ls: &[u16], ts: &[u64])
 
 fn write_entries10(out: &mut [u8], at: usize, order: u8, ls: &[u16], ps: &[u16])
     requires { ⌜ (at < 200000) × (length (now ls) < 65536) × (length (now ps) ≡ length (now ls)) ⌝ }
-    ensures { λ _. ⌜ Stored (4 * length (now (ls .entry))) (now (out .entry)) at (rows (entry10 order (now (ls .entry)) (now (ps .entry))) (length (now (ls .entry)))) (now (out .exit)) ⌝ }
+    ensures { λ _. ⌜
+        StoredRows (length (now (ls .entry))) 4 (now (out .entry)) at (entry10 order (now (ls .entry)) (now (ps .entry))) (now (out .exit))
+        ⌝ }
 {
     let mut i = 0;
     while i < ls.len() {
@@ -82,7 +89,10 @@ fn write_entries10(out: &mut [u8], at: usize, order: u8, ls: &[u16], ps: &[u16])
 // The blocks with entries, and the last one.
 fn write8(out: &mut [u8], order: u8, v: Block8, ls: &[u16], xs: &[u32], ys: &[u32])
     requires { ⌜ (length (now ls) ≤ 6547) × (length (now xs) ≡ length (now ls)) × (length (now ys) ≡ length (now ls)) ⌝ }
-    ensures { λ _. ⌜ Stored (61 + 10 * length (now (ls .entry))) (now (out .entry)) 1051 (bytes8 order v (now (ls .entry)) (now (xs .entry)) (now (ys .entry))) (now (out .exit)) ⌝ }
+    ensures { λ _. ⌜
+        Stored (length8 (length (now (ls .entry)))) (now (out .entry)) at8
+        (bytes8 order v (now (ls .entry)) (now (xs .entry)) (now (ys .entry))) (now (out .exit))
+        ⌝ }
 {
     let a = ls.len();
     let long = (61 + 10 * a) as u16;
@@ -100,7 +110,9 @@ fn write8(out: &mut [u8], order: u8, v: Block8, ls: &[u16], xs: &[u32], ys: &[u3
 
 fn write9(out: &mut [u8], at: usize, order: u8, spare: [u8; 40], ls: &[u16], ts: &[u64])
     requires { ⌜ (at < 100000) × (length (now ls) ≤ 6549) × (length (now ts) ≡ length (now ls)) ⌝ }
-    ensures { λ _. ⌜ Stored (45 + 10 * length (now (ls .entry))) (now (out .entry)) at (bytes9 order spare (now (ls .entry)) (now (ts .entry))) (now (out .exit)) ⌝ }
+    ensures { λ _. ⌜
+        Stored (length9 (length (now (ls .entry)))) (now (out .entry)) at (bytes9 order spare (now (ls .entry)) (now (ts .entry))) (now (out .exit))
+        ⌝ }
 {
     let b = ls.len();
     wire::put_byte(out, at, 9);
@@ -115,7 +127,9 @@ fn write9(out: &mut [u8], at: usize, order: u8, spare: [u8; 40], ls: &[u16], ts:
 
 fn write10(out: &mut [u8], at: usize, order: u8, spare: [u8; 40], ls: &[u16], ps: &[u16])
     requires { ⌜ (at < 190000) × (length (now ls) ≤ 65535) × (length (now ps) ≡ length (now ls)) ⌝ }
-    ensures { λ _. ⌜ Stored (47 + 4 * length (now (ls .entry))) (now (out .entry)) at (bytes10 order spare (now (ls .entry)) (now (ps .entry))) (now (out .exit)) ⌝ }
+    ensures { λ _. ⌜
+        Stored (length10 (length (now (ls .entry)))) (now (out .entry)) at (bytes10 order spare (now (ls .entry)) (now (ps .entry))) (now (out .exit))
+        ⌝ }
 {
     let c = ls.len();
     wire::put_byte(out, at, 10);
@@ -152,20 +166,32 @@ fn write_back(
     pixels: &[u16],
 )
     requires { ⌜ Fits h (entriesFrom (now lines8) (now xs) (now ys) (now lines9) (now times) (now lines10) (now pixels)) ⌝ }
-    ensures { λ _. ⌜ Stored (412 + 10 * length (now (lines8 .entry)) + 10 * length (now (lines9 .entry)) + 4 * length (now (lines10 .entry))) (now (out .entry)) 1051 (join (back h (entriesFrom (now (lines8 .entry)) (now (xs .entry)) (now (ys .entry)) (now (lines9 .entry)) (now (times .entry)) (now (lines10 .entry)) (now (pixels .entry))))) (now (out .exit)) ⌝ }
+    ensures { λ _. ⌜
+        StoredBack (now (out .entry)) h
+        (entriesFrom (now (lines8 .entry)) (now (xs .entry)) (now (ys .entry)) (now (lines9 .entry))
+        (now (times .entry)) (now (lines10 .entry)) (now (pixels .entry)))
+        (now (out .exit))
+        ⌝ }
 {
-    let at9 = 1112 + 10 * lines8.len();
-    let at10 = 1157 + 10 * lines8.len() + 10 * lines9.len();
-    let at11 = 1204 + 10 * lines8.len() + 10 * lines9.len() + 4 * lines10.len();
+    let a = lines8.len() as u16;
+    let b = lines9.len() as u16;
+    let c = lines10.len() as u16;
     let block1 = h.block1;
     let block8 = h.block8;
     let spare9 = h.spare9;
     let spare10 = h.spare10;
     let spare11 = h.spare11;
     write8(out, block1.order, block8, lines8, xs, ys);
-    write9(out, at9, block1.order, spare9, lines9, times);
-    write10(out, at10, block1.order, spare10, lines10, pixels);
-    write11(out, at11, block1.order, spare11);
+    write9(out, header::place9(a), block1.order, spare9, lines9, times);
+    write10(
+        out,
+        header::place10(a, b),
+        block1.order,
+        spare10,
+        lines10,
+        pixels,
+    );
+    write11(out, header::place11(a, b, c), block1.order, spare11);
 }
 
 fn write_all(
@@ -180,7 +206,12 @@ fn write_all(
     pixels: &[u16],
 )
     requires { ⌜ Fits h (entriesFrom (now lines8) (now xs) (now ys) (now lines9) (now times) (now lines10) (now pixels)) ⌝ }
-    ensures { λ _. ⌜ Stored (headerLength (length (now (lines8 .entry))) (length (now (lines9 .entry))) (length (now (lines10 .entry)))) (now (out .entry)) 0 (encode h (entriesFrom (now (lines8 .entry)) (now (xs .entry)) (now (ys .entry)) (now (lines9 .entry)) (now (times .entry)) (now (lines10 .entry)) (now (pixels .entry)))) (now (out .exit)) ⌝ }
+    ensures { λ _. ⌜
+        StoredAll (now (out .entry)) h
+        (entriesFrom (now (lines8 .entry)) (now (xs .entry)) (now (ys .entry)) (now (lines9 .entry))
+        (now (times .entry)) (now (lines10 .entry)) (now (pixels .entry)))
+        (now (out .exit))
+        ⌝ }
 {
     let a = lines8.len() as u16;
     let b = lines9.len() as u16;
@@ -260,7 +291,12 @@ fn check_given(
     pixels: &[u16],
     n: usize,
 ) -> Verdict
-    ensures { λ r. ⌜ paper r ≡ ruled h (entriesFrom (now (lines8 .entry)) (now (xs .entry)) (now (ys .entry)) (now (lines9 .entry)) (now (times .entry)) (now (lines10 .entry)) (now (pixels .entry))) n ⌝ }
+    ensures { λ r. ⌜
+        paper r ≡ ruled h
+        (entriesFrom (now (lines8 .entry)) (now (xs .entry)) (now (ys .entry)) (now (lines9 .entry))
+        (now (times .entry)) (now (lines10 .entry)) (now (pixels .entry)))
+        n
+        ⌝ }
 {
     let block1 = h.block1;
     let block2 = h.block2;
@@ -290,7 +326,12 @@ pub fn write(
     lines10: &[u16],
     pixels: &[u16],
 ) -> Verdict
-    ensures { λ r. ⌜ Wrote (now (out .entry)) h (entriesFrom (now (lines8 .entry)) (now («column_shifts» .entry)) (now («line_shifts» .entry)) (now (lines9 .entry)) (now (times .entry)) (now (lines10 .entry)) (now (pixels .entry))) r (now (out .exit)) ⌝ }
+    ensures { λ r. ⌜
+        Wrote (now (out .entry)) h
+        (entriesFrom (now (lines8 .entry)) (now («column_shifts» .entry)) (now («line_shifts» .entry)) (now (lines9 .entry))
+        (now (times .entry)) (now (lines10 .entry)) (now (pixels .entry)))
+        r (now (out .exit))
+        ⌝ }
 {
     let xs = column_shifts;
     let ys = line_shifts;

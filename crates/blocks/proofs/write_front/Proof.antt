@@ -1,13 +1,13 @@
 -- `write_front`: blocks 1 to 7, each where the last one ended.
 use mathlib.Core.Path.{refl}
 use Rattle.wire.proofs.Stores.{puts, next, done}
-use Rattle.blocks.specs.Front.{front}
+use Rattle.header.specs.Encode.{frontBlocks}
 use borrow.Author.Needs.{needs}
 use Rattle.blocks.proofs.write_front.Statement.{statement}
 use Rattle.blocks.proofs.write_front.Tie as tie
 
 returns : tie.Need-returns
-unfolding front
+unfolding frontBlocks
 returns c =
     let c7 = c .before .before in
     let c6 = c7 .before .before .before .before in

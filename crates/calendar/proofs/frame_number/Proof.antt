@@ -4,7 +4,7 @@ use mir.Syntax.{w64}
 use mir.Facts.{toZ-ofZ}
 use native.Mathlib.Omega.{arith}
 use Rattle.rules.specs.Rules.{paper, reply}
-use Rattle.calendar.specs.Shots.{slotAt, paperFrame, frameOf}
+use Rattle.calendar.specs.Shots.{slotAt, paperFrame, filmFrameOf}
 use borrow.Author.Needs.{needs}
 use Rattle.calendar.proofs.frame_number.Statement.{statement}
 use Rattle.calendar.proofs.frame_number.Tie as tie
@@ -14,11 +14,11 @@ unfolding slotAt
 difference-requires c κs = (omega arith, omega arith)
 
 returns : tie.Need-returns
-unfolding paper paperFrame reply frameOf
+unfolding paper paperFrame reply filmFrameOf
 returns c = rw (sym (c .before .before .before .check-shots .ensures) ∙ ap paper (c .before .v .given .1))
 
 returns-2 : tie.Need-returns-2
-unfolding paper paperFrame reply frameOf
+unfolding paper paperFrame reply filmFrameOf
 returns-2 c =
     let d = c .before .before .before in
     rw (sym (d .before .before .check-shots .ensures) ∙ ap paper (d .enum-told .given .1), toZ-ofZ {w = w64} (record { sfits = c .difference .ok })) (cc)

@@ -4,11 +4,12 @@ use native.Mathlib.Nat.{le-trans}
 use denote.Ref.{now}
 use lib.ListN.{length}
 use Rattle.rules.specs.Rules.{paper, fine, after}
+use Rattle.header.specs.Values.{block1Of}
 use Rattle.accept.specs.Answers.{factsOf}
 use Rattle.slate.proofs.Cuts.{good, strip-room}
 use Rattle.frame.specs.Counts.{countsOf}
 use Rattle.frame.specs.Frames.{offered, recordAfter, frameAfter}
-use Rattle.frame.proofs.Putting.{Matching, matches, Placed, placed}
+use Rattle.frame.proofs.Putting.{Matching, matches, Placed, places}
 use borrow.Author.Needs.{needs}
 use Rattle.frame.proofs.offer.Statement.{statement}
 use Rattle.frame.proofs.offer.Tie as tie
@@ -19,7 +20,7 @@ unfolding paper
 said c = sym (c .before .before .judge .ensures) ∙ ap paper (c .enum-told .given .1)
 
 well : (c : tie.After-enum-told) → let a = c .before .before .before .before .before .args in Placed (a .slate) (length (now (a .frame))) (now (a .file))
-well c = placed _ _ _ _ (said c)
+well c = places _ _ _ _ (said c)
 
 fit : (c : tie.After-enum-told) → let a = c .before .before .before .before .before .args in Matching (a .slate) (now (a .file))
 fit c = let w = well c in matches _ _ (w .file) (w .match)
@@ -45,7 +46,7 @@ returns c =
     (sym refused, (rw refused, rw refused))
 
 returns-2 : tie.Need-returns-2
-unfolding paper after recordAfter frameAfter countsOf factsOf
+unfolding paper after recordAfter frameAfter countsOf factsOf block1Of
 returns-2 c =
     let put = c .before .before .before in
     let counts = put .before in

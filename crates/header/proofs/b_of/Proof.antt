@@ -5,17 +5,9 @@ use Rattle.header.proofs.b_of.Statement.{statement}
 use Rattle.header.proofs.b_of.Tie as tie
 
 returns : tie.Need-returns
-returns c = c .u16-at .ensures ∙ rw (c .before .byte-at .ensures, c .before .before .a-of .ensures)
+returns c = c .u16-at .ensures ∙ rw (c .before .byte-at .ensures, c .before .before .place9 .ensures, c .before .before .before .a-of .ensures)
 
 pub b-of-spec : {M : Type 1} → statement M
 b-of-spec =
     tie.close
-    (tie.spec
-    (λ c κs. search needs)
-    (λ c. search needs)
-    (λ c. search needs)
-    (λ c. search needs)
-    (λ c. search needs)
-    (λ c κs. search needs)
-    (λ c κs. search needs)
-    returns)
+    (tie.spec (λ c κs. search needs) (λ c κs. search needs) (λ c. search needs) (λ c κs. search needs) (λ c κs. search needs) returns)

@@ -3,12 +3,12 @@ use native.Mathlib.Omega.{arith}
 use borrow.Author.Needs.{needs}
 use mathlib.Core.Path.{refl}
 use Rattle.wire.proofs.Stores.{puts, next, done}
-use Rattle.listing.specs.Lines.{lineOf}
+use Rattle.listing.specs.Lines.{lineWords}
 use Rattle.listing.proofs.put_accepted.Statement.{statement}
 use Rattle.listing.proofs.put_accepted.Tie as tie
 
 returns : tie.Need-returns
-unfolding lineOf
+unfolding lineWords
 returns c =
     let end = c .before .before in
     let segment = end .before .before .before .before in

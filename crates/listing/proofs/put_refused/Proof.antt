@@ -3,12 +3,12 @@ use native.Mathlib.Omega.{arith}
 use native.Mathlib.Nat.{zero-add}
 use borrow.Author.Needs.{needs}
 use Rattle.wire.proofs.Stores.{puts, next, next-at, done}
-use Rattle.listing.specs.Lines.{lineOf}
+use Rattle.listing.specs.Lines.{lineWords}
 use Rattle.listing.proofs.put_refused.Statement.{statement}
 use Rattle.listing.proofs.put_refused.Tie as tie
 
 returns : tie.Need-returns
-unfolding lineOf
+unfolding lineWords
 returns c =
     let end = c .before .before in
     let said = end .before .before .before .before in

@@ -2,13 +2,13 @@
 use native.Mathlib.Omega.{arith}
 use borrow.Author.Needs.{needs}
 use Rattle.wire.proofs.Stores.{puts, next, done}
-use Rattle.listing.specs.Lines.{segment}
+use Rattle.listing.specs.Lines.{segmentWords}
 use Rattle.listing.proofs.Words.{room}
 use Rattle.listing.proofs.put_segment.Statement.{statement}
 use Rattle.listing.proofs.put_segment.Tie as tie
 
 returns : tie.Need-returns
-unfolding segment
+unfolding segmentWords
 returns c =
     let first = c .before .before in
     let total = first .before .before .before .before in

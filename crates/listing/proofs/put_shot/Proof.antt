@@ -2,13 +2,13 @@
 use native.Mathlib.Omega.{arith}
 use borrow.Author.Needs.{needs}
 use Rattle.wire.proofs.Stores.{puts, next, done}
-use Rattle.listing.specs.Lines.{shot}
+use Rattle.listing.specs.Lines.{shotWords}
 use Rattle.listing.proofs.Words.{room}
 use Rattle.listing.proofs.put_shot.Statement.{statement}
 use Rattle.listing.proofs.put_shot.Tie as tie
 
 returns : tie.Need-returns
-unfolding shot
+unfolding shotWords
 returns c =
     let area = c .before .before in
     let band = area .before .before .before .before in

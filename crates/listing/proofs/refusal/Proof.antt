@@ -3,12 +3,12 @@ use native.Mathlib.Omega.{arith}
 use borrow.Author.Needs.{needs}
 use mathlib.Core.Path.{refl}
 use Rattle.wire.proofs.Stores.{puts, next, done}
-use Rattle.listing.specs.Lines.{refusalOf}
+use Rattle.listing.specs.Lines.{refusalWords}
 use Rattle.listing.proofs.refusal.Statement.{statement}
 use Rattle.listing.proofs.refusal.Tie as tie
 
 returns : tie.Need-returns
-unfolding refusalOf
+unfolding refusalWords
 returns c =
     let block = c .before .before in
     let number = block .before .before .before .before .before in

@@ -9,8 +9,8 @@ use Rattle.plugin.proofs.hsd_accept.Tie as tie
 returns : tie.Need-returns
 unfolding paperAnswer shownFile
 returns c =
-    let k = c .before .before .before in
-    rw (sym (k .before .before .accept .ensures) ∙ ap paperAnswer (k .answer .given .1), c .before .float-of .ensures, c .float-of2 .ensures)
+    let k = c .before .before in
+    rw (sym (k .before .before .accept .ensures) ∙ ap paperAnswer (k .answer .given .1), c .calibration .ensures)
 
 returns-2 : tie.Need-returns-2
 unfolding paperAnswer shownFile
@@ -25,7 +25,6 @@ hsd-accept-spec =
     (tie.spec
     (λ c κs. search needs)
     (λ c. search needs)
-    (λ c κs. search needs)
     (λ c κs. search needs)
     (λ c. search needs)
     (λ c κs. search needs)

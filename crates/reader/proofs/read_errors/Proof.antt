@@ -9,13 +9,13 @@ use borrow.Author.Needs.{needs}
 use Rattle.rules.specs.Rules.{Row, Ruling, fine, paper}
 use Rattle.header.specs.Places.{aOf, bOf, cOf, at10}
 use Rattle.header.specs.Entries.{entriesOf}
-use Rattle.reader.specs.Reads.{rooms2, ruled}
+use Rattle.reader.specs.Reads.{rooms2, readRuling}
 use Rattle.reader.proofs.Filled.{ruling, roomy2, kept, column-in}
 use Rattle.reader.proofs.read_errors.Statement.{statement}
 use Rattle.reader.proofs.read_errors.Tie as tie
 
 abbrev start : tie.After-check-rooms2 → tie.Start
-start k = k .before .before .before .before .before .before .before .before .before
+start k = k .before .before .before .before .before .before .before .before .before .before
 
 abbrev bytes : tie.After-check-rooms2 → List ℕ
 bytes k = now (start k .args .file)
@@ -25,7 +25,7 @@ sizes k n = rooms2 n (length (now (start k .args .lines))) (length (now (start k
 
 -- the ruling on a call, as its definition has it
 abbrev asked : tie.After-check-rooms2 → Ruling
-asked k = ruled (bytes k) (sizes k (cOf (bytes k)))
+asked k = readRuling (bytes k) (sizes k (cOf (bytes k)))
 
 told : (k : tie.After-check-rooms2) → paper (k .check-rooms2 .result) ≡ asked k
 told k = ruling (bytes k) (sizes k) (k .before .verdict .ensures) (k .check-rooms2 .ensures) (k .before .before .c-of .ensures)
@@ -59,11 +59,11 @@ returns-2 c =
     let d = q .before .before in
     let k = d .before .before in
     let n = k .before .before in
-    let b = n .before in
+    let p = n .before in
+    let b = p .before in
     let a = b .before in
     let o = a .before .byte-at .ensures in
-    let at : (i : ℕ) → 1157 + 10 * a .a-of .result + 10 * b .b-of .result + i ≡ at10 (aOf (bytes k)) (bOf (bytes k)) + i = λ i.
-    ap (λ (x : ℕ). at10 x (b .b-of .result) + i) (a .a-of .ensures) ∙ ap (λ (y : ℕ). at10 (aOf (bytes k)) y + i) (b .b-of .ensures) in
+    let at : (i : ℕ) → p .place10 .result + i ≡ at10 (aOf (bytes k)) (bOf (bytes k)) + i = λ i. ap (λ (x : ℕ). x + i) (p .place10 .ensures ∙ (λ i. at10 (a .a-of .ensures i) (b .b-of .ensures i))) in
     record {
       says = sym (known d);
       lines = column-in (bytes k) (now (start k .args .lines)) 4 2 (known d) o (at 7) (n .c-of .ensures) (q .read-u16s .ensures);
@@ -76,13 +76,8 @@ read-errors-spec =
     (tie.spec
     (λ c κs. search needs)
     (λ c κs. search needs)
-    (λ c. search needs)
     (λ c κs. search needs)
-    (λ c. search needs)
-    (λ c. search needs)
-    (λ c. search needs)
-    (λ c. search needs)
-    (λ c. search needs)
+    (λ c κs. search needs)
     (λ c κs. search needs)
     (λ c. search needs)
     (λ c κs. search needs)

@@ -9,7 +9,7 @@ use borrow.Author.Needs.{needs}
 use Rattle.rules.specs.Rules.{Row, Ruling, fine, paper}
 use Rattle.header.specs.Places.{aOf}
 use Rattle.header.specs.Entries.{entriesOf}
-use Rattle.reader.specs.Reads.{rooms3, ruled}
+use Rattle.reader.specs.Reads.{rooms3, readRuling}
 use Rattle.reader.proofs.Filled.{ruling, roomy3, kept, column-in}
 use Rattle.reader.proofs.read_shifts.Statement.{statement}
 use Rattle.reader.proofs.read_shifts.Tie as tie
@@ -25,7 +25,7 @@ sizes k n = rooms3 n (length (now (start k .args .lines))) (length (now (start k
 
 -- the ruling on a call, as its definition has it
 abbrev asked : tie.After-check-rooms3 → Ruling
-asked k = ruled (bytes k) (sizes k (aOf (bytes k)))
+asked k = readRuling (bytes k) (sizes k (aOf (bytes k)))
 
 told : (k : tie.After-check-rooms3) → paper (k .check-rooms3 .result) ≡ asked k
 told k = ruling (bytes k) (sizes k) (k .before .verdict .ensures) (k .check-rooms3 .ensures) (k .before .before .a-of .ensures)

@@ -9,13 +9,13 @@ use borrow.Author.Needs.{needs}
 use Rattle.rules.specs.Rules.{Row, Ruling, fine, paper}
 use Rattle.header.specs.Places.{aOf, bOf, at9}
 use Rattle.header.specs.Entries.{entriesOf}
-use Rattle.reader.specs.Reads.{rooms2, ruled}
+use Rattle.reader.specs.Reads.{rooms2, readRuling}
 use Rattle.reader.proofs.Filled.{ruling, roomy2, kept, column-in}
 use Rattle.reader.proofs.read_times.Statement.{statement}
 use Rattle.reader.proofs.read_times.Tie as tie
 
 abbrev start : tie.After-check-rooms2 → tie.Start
-start k = k .before .before .before .before .before .before .before .before
+start k = k .before .before .before .before .before .before .before .before .before
 
 abbrev bytes : tie.After-check-rooms2 → List ℕ
 bytes k = now (start k .args .file)
@@ -25,7 +25,7 @@ sizes k n = rooms2 n (length (now (start k .args .lines))) (length (now (start k
 
 -- the ruling on a call, as its definition has it
 abbrev asked : tie.After-check-rooms2 → Ruling
-asked k = ruled (bytes k) (sizes k (bOf (bytes k)))
+asked k = readRuling (bytes k) (sizes k (bOf (bytes k)))
 
 told : (k : tie.After-check-rooms2) → paper (k .check-rooms2 .result) ≡ asked k
 told k = ruling (bytes k) (sizes k) (k .before .verdict .ensures) (k .check-rooms2 .ensures) (k .before .before .b-of .ensures)
@@ -59,9 +59,10 @@ returns-2 c =
     let d = q .before .before in
     let k = d .before .before in
     let b = k .before .before in
-    let a = b .before in
+    let p = b .before in
+    let a = p .before in
     let o = a .before .byte-at .ensures in
-    let at : (n : ℕ) → 1112 + 10 * a .a-of .result + n ≡ at9 (aOf (bytes k)) + n = λ n. ap (λ (x : ℕ). at9 x + n) (a .a-of .ensures) in
+    let at : (n : ℕ) → p .place9 .result + n ≡ at9 (aOf (bytes k)) + n = λ n. ap (λ (x : ℕ). x + n) (p .place9 .ensures ∙ ap at9 (a .a-of .ensures)) in
     record {
       says = sym (known d);
       lines = column-in (bytes k) (now (start k .args .lines)) 10 2 (known d) o (at 5) (b .b-of .ensures) (q .read-u16s .ensures);
@@ -74,9 +75,7 @@ read-times-spec =
     (tie.spec
     (λ c κs. search needs)
     (λ c κs. search needs)
-    (λ c. search needs)
-    (λ c. search needs)
-    (λ c. search needs)
+    (λ c κs. search needs)
     (λ c κs. search needs)
     (λ c. search needs)
     (λ c κs. search needs)

@@ -2,9 +2,7 @@
 use Prim.Native.Nat.{_*_, _≤_}
 use native.Mathlib.Nat.{mul-le-mul}
 use native.Mathlib.Omega.{arith}
-use Rattle.header.specs.Encode.{encode}
-use Rattle.blocks.specs.Front.{front}
-use Rattle.writer.specs.Sizes.{back}
+use Rattle.header.specs.Encode.{encode, blocksOf}
 use Rattle.writer.proofs.Written.{both}
 use borrow.Author.Needs.{needs}
 use Rattle.writer.proofs.write_all.Statement.{statement}
@@ -18,7 +16,7 @@ cast-counts c =
     omega (arith, mul-le-mul p q)
 
 returns : tie.Need-returns
-unfolding encode front back
+unfolding encode blocksOf
 returns c =
     let w = c .before .before in
     let f = w .before .before .before .before in

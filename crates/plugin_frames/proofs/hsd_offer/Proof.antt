@@ -1,0 +1,65 @@
+use mathlib.Core.Path.{_≡_, sym, ap, _∙_}
+use denote.Ref.{now}
+use lib.ListN.{length}
+use Rattle.rules.specs.Rules.{paper, after}
+use Rattle.slate.specs.Slates.{paperSlate}
+use Rattle.frame.specs.Frames.{offering}
+use Rattle.plugin_frames.specs.Strips.{slateIn, slateC, goodMarks, shownRuling, marksIn, offeredC, offerMarks, offerStrip}
+use Rattle.plugin_frames.proofs.Lending.{Lent, lent-made, lent-good, good-long, lent-offered, offer-strip}
+use borrow.Author.Needs.{needs}
+use Rattle.plugin_frames.proofs.hsd_offer.Statement.{statement}
+use Rattle.plugin_frames.proofs.hsd_offer.Tie as tie
+
+good : (c : tie.After-made2) → let a = c .before .before .before .before .before .before .before .before .args in Lent (a .slate) (goodMarks (now (a .marks))) (c .made2 .given .0 .0)
+unfolding paperSlate
+good c = lent-made _ _ _ (sym (ap paperSlate (c .made2 .given .1)) ∙ c .before .before .slate-of .ensures ∙ ap (slateC _) (c .before .before .before .good-marks .ensures))
+
+keep-requires : tie.Need-keep-requires
+keep-requires c κs = good-long _ (good (c .before .before .before .before .before .before .before .before) .marks)
+
+returns : tie.Need-returns
+unfolding paper after paperSlate offerMarks offerStrip
+returns c =
+    let made = c .before .before in
+    let r = lent-offered _ _ _ (sym (ap paperSlate (made .made .given .1)) ∙ made .before .before .slate-of .ensures ∙ ap (slateC _) (made .before .before .before .good-marks .ensures)) _ _ in
+    (c .answer-of .ensures ∙ ap shownRuling (sym r), (rw r, rw r))
+
+returns-2 : tie.Need-returns-2
+unfolding offerMarks
+returns-2 c =
+    let kept = c .before .before in
+    let called = kept .before .before .before .before in
+    let taken = called .before .before in
+    let made = taken .before .before .before in
+    let g = good made in
+    let a = made .before .before .before .before .before .before .before .before .args in
+    let s = slateIn (a .slate) in
+    let m = now (a .marks) in
+    let frame = now (a .frame) in
+    let f = now (a .file) in
+    let r : paper (called .offer .result .verdict) ≡ offeredC (a .slate) m (length frame) f =
+    called .offer .ensures .0 ∙ rw (← g .slate, taken .record-of .ensures) (sym (lent-good (goodMarks m) (offering s (marksIn m) (length frame) f) (g .marks))) in (
+      kept .keep .ensures .0 ∙ ap shownRuling r,
+      (
+        kept .keep .ensures .1 ∙ rw (r, called .offer .ensures .1 .0, ← g .slate, taken .record-of .ensures),
+        called .offer .ensures .1 .1 ∙ rw (← g .slate, taken .record-of .ensures) (offer-strip (a .slate) m (g .marks) frame f),
+      ),
+    )
+
+pub hsd-offer-spec : {M : Type 1} → statement M
+hsd-offer-spec =
+    tie.close
+    (tie.spec
+    (λ c κs. search needs)
+    (λ c κs. search needs)
+    (λ c. search needs)
+    (λ c κs. search needs)
+    (λ c. search needs)
+    (λ c κs. search needs)
+    (λ c κs. search needs)
+    keep-requires
+    (λ c. search needs)
+    returns
+    (λ c. search needs)
+    (λ c. search needs)
+    returns-2)

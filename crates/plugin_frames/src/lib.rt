@@ -1,0 +1,207 @@
+// Frames for C, thin over the proved library: a slate of plain numbers, 99 lent marks, and a lent strip of counts.
+use frame::Held;
+use frame::Record;
+use rules::Verdict;
+use rules::Why;
+use slate::Line;
+use slate::Slate;
+use slate::Slated;
+ghost use mathlib.Core.Path.{_≡_};
+ghost use lib.ListN.{length};
+ghost use Rattle.rules.specs.Rules.{paper, after};
+ghost use Rattle.slate.specs.Slates.{paperSlate};
+ghost use Rattle.plugin_frames.specs.Strips.{shownRuling, bitsFrom, goodMarks, marksIn, marksOut, slateC, openedC, offeredC, openMarks, openStrip, offerMarks, offerStrip, lineC, copiedOf, copyOf};
+
+// satellite is 8 or 9, total the segments and lines those of each segment, area the four letters, the first one highest.
+#[repr(C)]
+pub struct HsdSlate {
+    pub satellite: u8,
+    pub total: u8,
+    pub timeline: u16,
+    pub band: u16,
+    pub columns: u16,
+    pub lines: u16,
+    pub day: u32,
+    pub area: u32,
+}
+
+// refusal is 0 where nothing is wrong.
+#[repr(C)]
+pub struct HsdAnswer {
+    pub refusal: u8,
+    pub block: u8,
+}
+
+fn answer_of(v: Verdict) -> HsdAnswer
+    ensures { λ r. ⌜ r ≡ shownRuling (paper v) ⌝ }
+{
+    match v {
+        Verdict::Fine => HsdAnswer {
+            refusal: 0,
+            block: 0,
+        },
+        Verdict::Refused(t) => {
+            let why = t.why;
+            HsdAnswer {
+                refusal: rules::number_of(why),
+                block: t.block,
+            }
+        }
+    }
+}
+
+fn are_bits(marks: &[u8]) -> bool
+    ensures { λ r. ⌜ r ≡ bitsFrom (now (marks .entry)) 0 ⌝ }
+{
+    let mut k = 0;
+    while k < 99 {
+        if wire::byte_at(marks, k) > 1 {
+            return false;
+        }
+        k += 1;
+    }
+    true
+}
+
+fn good_marks(marks: &[u8]) -> bool
+    ensures { λ r. ⌜ r ≡ goodMarks (now (marks .entry)) ⌝ }
+{
+    (marks.len() == 99) & are_bits(marks)
+}
+
+fn record_of(marks: &[u8]) -> Record
+    ensures { λ r. ⌜ r .marks ≡ marksIn (now (marks .entry)) ⌝ }
+{
+    let mut rec = frame::empty();
+    let mut k = 0;
+    while k < 99 {
+        rec.marks[k] = wire::byte_at(marks, k) == 1;
+        k += 1;
+    }
+    rec
+}
+
+// The slate of a struct's numbers, or refusal 13 where the marks will not do or the slate is bad.
+fn slate_of(s: HsdSlate, marked: bool) -> Slated
+    ensures { λ r. ⌜ paperSlate r ≡ slateC s marked ⌝ }
+{
+    let v = rules::check(Verdict::Fine, marked, Why::Slate, 0);
+    match v {
+        Verdict::Refused(t) => Slated::Refused(t),
+        Verdict::Fine => Slate::new(
+            s.satellite,
+            s.day,
+            s.timeline,
+            s.band,
+            s.area,
+            s.columns,
+            s.total,
+            s.lines,
+        ),
+    }
+}
+
+fn store_marks(marks: &mut [u8], rec: Record)
+    requires { ⌜ length (now marks) ≡ 99 ⌝ }
+    ensures { λ _. ⌜ now (marks .exit) ≡ marksOut (rec .marks) ⌝ }
+{
+    let mut k = 0;
+    while k < 99 {
+        marks[k] = frame::one(rec.marks[k]);
+        k += 1;
+    }
+}
+
+// The answer; the marks are the newest record's, unless something is wrong.
+fn keep(marks: &mut [u8], held: Held) -> HsdAnswer
+    requires { ⌜ length (now marks) ≡ 99 ⌝ }
+    ensures { λ r. ⌜ r ≡ shownRuling (paper (held .verdict)) ⌝ }
+    ensures { λ _. ⌜ now (marks .exit) ≡ after (paper (held .verdict)) (now (marks .entry)) (marksOut (held .rec .marks)) ⌝ }
+{
+    let v = held.verdict;
+    match v {
+        Verdict::Refused(t) => answer_of(Verdict::Refused(t)),
+        Verdict::Fine => {
+            store_marks(marks, held.rec);
+            answer_of(Verdict::Fine)
+        }
+    }
+}
+
+// Opens a frame: fills it with 65,534 and clears the marks, whatever they were.
+#[no_mangle]
+pub extern "C" fn hsd_open(slate: HsdSlate, marks: &mut [u8], frame: &mut [u16]) -> HsdAnswer
+    ensures { λ r. ⌜ r ≡ shownRuling (openedC slate (now (marks .entry)) (length (now (frame .entry)))) ⌝ }
+    ensures { λ _. ⌜ now (marks .exit) ≡ openMarks slate (now (marks .entry)) (length (now (frame .entry))) ⌝ }
+    ensures { λ _. ⌜ now (frame .exit) ≡ openStrip slate (now (marks .entry)) (now (frame .entry)) ⌝ }
+{
+    let made = slate_of(slate, marks.len() == 99);
+    match made {
+        Slated::Refused(t) => answer_of(Verdict::Refused(t)),
+        Slated::Made(s) => {
+            let held = frame::open(s, frame);
+            keep(marks, held)
+        }
+    }
+}
+
+// Offers a file: places its counts and sets its mark, or says why not.
+#[no_mangle]
+pub extern "C" fn hsd_offer(
+    slate: HsdSlate,
+    marks: &mut [u8],
+    frame: &mut [u16],
+    file: &[u8],
+) -> HsdAnswer
+    ensures { λ r. ⌜ r ≡ shownRuling (offeredC slate (now (marks .entry)) (length (now (frame .entry))) (now (file .entry))) ⌝ }
+    ensures { λ _. ⌜ now (marks .exit) ≡ offerMarks slate (now (marks .entry)) (length (now (frame .entry))) (now (file .entry)) ⌝ }
+    ensures { λ _. ⌜ now (frame .exit) ≡ offerStrip slate (now (marks .entry)) (now (frame .entry)) (now (file .entry)) ⌝ }
+{
+    let made = slate_of(slate, good_marks(marks));
+    match made {
+        Slated::Refused(t) => answer_of(Verdict::Refused(t)),
+        Slated::Made(s) => {
+            let held = frame::offer(s, record_of(marks), frame, file);
+            keep(marks, held)
+        }
+    }
+}
+
+// Copies a line to the front of the output if there is room.
+fn copy(line: &[u16], out: &mut [u16]) -> usize
+    ensures { λ r. ⌜ r ≡ copiedOf (now (line .entry)) (now (out .entry)) ⌝ }
+    ensures { λ _. ⌜ now (out .exit) ≡ copyOf (now (line .entry)) (now (out .entry)) ⌝ }
+{
+    if out.len() < line.len() {
+        return 0;
+    }
+    let mut i = 0;
+    while i < line.len() {
+        out[i] = line[i];
+        i += 1;
+    }
+    i
+}
+
+// Copies a line of the frame, or of the leader where its segment is missing, and answers how many counts these are.
+#[no_mangle]
+pub extern "C" fn hsd_line<'a>(
+    slate: HsdSlate,
+    marks: &[u8],
+    frame: &'a [u16],
+    leader: &'a [u16],
+    line: u16,
+    out: &mut [u16],
+) -> usize
+    ensures { λ r. ⌜ r ≡ copiedOf (lineC slate (now (marks .entry)) (now (frame .entry)) (now (leader .entry)) line) (now (out .entry)) ⌝ }
+    ensures { λ _. ⌜ now (out .exit) ≡ copyOf (lineC slate (now (marks .entry)) (now (frame .entry)) (now (leader .entry)) line) (now (out .entry)) ⌝ }
+{
+    let made = slate_of(slate, good_marks(marks));
+    match made {
+        Slated::Refused(_) => 0,
+        Slated::Made(s) => {
+            let rec = record_of(marks);
+            copy(frame::line_of(s, rec, frame, leader, Line(line)), out)
+        }
+    }
+}

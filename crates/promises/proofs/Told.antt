@@ -1,0 +1,72 @@
+-- The facts of a file that is made are those of its values and entries. Assumes nothing.
+use mathlib.Core.Path.{_≡_, sym, ap, _∙_}
+use mathlib.Core.List.{List}
+use Prim.Native.Nat.{ℕ, _+_}
+use lib.ListN.{length}
+use Rattle.wire.specs.Wire.{num}
+use Rattle.header.specs.declared.Header.{Header}
+use Rattle.header.specs.Places.{orderOf, aOf, bOf, cOf, at9, at10, headerLength}
+use Rattle.header.specs.Values.{headerOf}
+use Rattle.header.specs.Encode.{Entries}
+use Rattle.header.specs.Entries.{entriesOf}
+use Rattle.format.specs.Ranges.{satelliteOf}
+use Rattle.format.specs.Names.{dateOf, dayOr0}
+use Rattle.accept.specs.Answers.{factsOf}
+use Rattle.tiling.specs.Lawful.{Named}
+use Rattle.tiling.specs.Made.{Made}
+use Rattle.tiling.proofs.Back.{long}
+use Rattle.tiling.proofs.Lawful.{satellite-of, dated}
+use Rattle.tiling.proofs.Exactly.{reads-back}
+use Rattle.promises.specs.Told.{Told}
+
+module _ (s : List ℕ) (m : Made s) where
+  abbrev is : headerOf s ≡ m .v
+  is = reads-back s m .0
+
+  few8 : aOf s ≡ length (m .e .lines8)
+  unfolding entriesOf
+  few8 = sym (long s (orderOf s) 1072 10 2 (aOf s)) ∙ ap (λ (e : Entries). length (e .lines8)) (reads-back s m .1)
+
+  few9 : bOf s ≡ length (m .e .lines9)
+  unfolding entriesOf
+  few9 = sym (long s (orderOf s) (at9 (aOf s) + 5) 10 2 (bOf s)) ∙ ap (λ (e : Entries). length (e .lines9)) (reads-back s m .1)
+
+  few10 : cOf s ≡ length (m .e .lines10)
+  unfolding entriesOf
+  few10 = sym (long s (orderOf s) (at10 (aOf s) (bOf s) + 7) 4 2 (cOf s)) ∙ ap (λ (e : Entries). length (e .lines10)) (reads-back s m .1)
+
+  called : factsOf s .satellite ≡ m .lawful .satellite
+  unfolding factsOf headerOf
+  called = ap (λ (v : Header). satelliteOf (v .block1 .satellite)) is ∙ satellite-of (m .v .block1 .satellite) (m .lawful .satellite) (m .lawful .called)
+
+  day : factsOf s .day ≡ dayOr0 (dateOf (m .v .block1 .name))
+  unfolding factsOf headerOf
+  day = ap (λ (v : Header). dayOr0 (dateOf (v .block1 .name))) is
+
+  pub told : Told (factsOf s) (m .v) (m .e)
+  unfolding factsOf headerOf
+  told =
+      let named = m .lawful .name in
+      record {
+        order = ap (λ (v : Header). v .block1 .order) is;
+        satellite = rw called (m .lawful .called);
+        timeline = ap (λ (v : Header). v .block1 .timeline) is;
+        area = ap (λ (v : Header). num 1 (v .block1 .area)) is;
+        quality = ap (λ (v : Header). v .block1 .quality1) is;
+        columns = ap (λ (v : Header). v .block2 .columns) is;
+        lines = ap (λ (v : Header). v .block2 .lines) is;
+        band = ap (λ (v : Header). v .block5 .band) is;
+        bits = ap (λ (v : Header). v .block5 .bits) is;
+        gain = ap (λ (v : Header). v .block5 .gain) is;
+        constant = ap (λ (v : Header). v .block5 .constant) is;
+        total = ap (λ (v : Header). v .block7 .total) is;
+        number = ap (λ (v : Header). v .block7 .number) is;
+        first = ap (λ (v : Header). v .block7 .first) is;
+        a = few8;
+        b = few9;
+        c = few10;
+        header = λ i. headerLength (few8 i) (few9 i) (few10 i);
+        resolution = m .lawful .resolution;
+        name = record { y = named .y; m = named .m; d = named .d; date = named .date; is = rw called (named .is) };
+        day = day ∙ ap dayOr0 (dated named);
+      }
