@@ -40,7 +40,7 @@ bits-end m k h = pass-end isBit 0 m k h
 
 -- ---- the loop of `record_of`
 
-length-flags : (m : List ℕ) (n : ℕ) → length (flags m n) ≡ n
+pub length-flags : (m : List ℕ) (n : ℕ) → length (flags m n) ≡ n
 unfolding flags
 length-flags m zero = refl
 length-flags m (suc n) = rw (length-append, length-flags m n, add-one)

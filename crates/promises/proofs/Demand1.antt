@@ -59,7 +59,7 @@ use Rattle.promises.proofs.Refusals.{refused-in, refuses-in, left, in-a
 
 -- ---- every table is the paper's
 
-in-checks : (s : List ℕ) → inTable (checks s) ≡ true
+pub in-checks : (s : List ℕ) → inTable (checks s) ≡ true
 unfolding inTable allowed tables shape entries shape1 fields1 fixed2 fields2 fixed5 fields5 fields7 sums names ends blocks1to4 blocks5to7 blocks8to11 whole checks
 in-checks s = refl
 

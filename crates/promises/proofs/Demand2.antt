@@ -7,7 +7,8 @@ use Prim.Native.Nat.{ℕ, _≤_}
 use lib.ListN.{length, take, drop}
 use denote.Ref.{now}
 use Rattle.wire.specs.Wire.{Bytes}
-use Rattle.rules.specs.Rules.{fine, paper}
+use Rattle.rules.specs.Rules.{fine, judge, paper, says}
+use Rattle.rules.proofs.Judge.{said}
 use Rattle.rules.specs.declared.Verdict.{Verdict}
 use Rattle.rules.specs.declared.Verdict.the-variants.{Fine}
 use Rattle.header.specs.Places.{headerLength, lengthOf, dataLength}
@@ -15,19 +16,29 @@ use Rattle.header.specs.Values.{headerOf}
 use Rattle.header.specs.declared.Header.{Header}
 use Rattle.header.specs.Encode.{Entries, encode}
 use Rattle.header.specs.Entries.{entriesOf}
+use Rattle.accept.specs.declared.Facts.{Facts}
 use Rattle.accept.specs.declared.Answer.{Answer}
 use Rattle.accept.specs.declared.Answer.the-variants.{Accepted}
-use Rattle.accept.specs.Answers.{factsOf, paperAnswer}
+use Rattle.accept.specs.Checks.{checks}
+use Rattle.accept.specs.Answers.{factsOf, paperAnswer, answerOf}
 use Rattle.accept.proofs.Paper.{paperAnswer-one}
 use Rattle.accept.proofs.accept.Reads as accept
 use Rattle.writer.specs.Given.{ruled, Wrote}
 use Rattle.writer.proofs.Good.{good-is, good-of}
+use Rattle.reading.specs.declared.Calibration.{Calibration}
+use Rattle.reading.specs.Counts.{calibrationOf, readingOf}
+use Rattle.plugin.specs.declared.HsdFile.{HsdFile}
+use Rattle.plugin.specs.Plugin.{shownFile, calibrationC, shownReading}
+use Rattle.plugin.proofs.hsd_accept.Reads as hsd-accept
+use Rattle.plugin.proofs.hsd_reading.Reads as hsd-reading
 use Rattle.tiling.specs.Lawful.{Lawful}
 use Rattle.tiling.specs.Made.{Fit, Made, IsAccepted, Readable, Writable}
 use Rattle.tiling.proofs.Lawful.{lawful-is, lawful-of, lawful-exactly}
 use Rattle.tiling.proofs.Exactly as tiling
 use Rattle.promises.specs.Calls.{Answered, answered, Read, Written}
+use Rattle.promises.specs.Told.{Told}
 use Rattle.promises.proofs.Calls.{fine-is, got, fine-read, wrote}
+use Rattle.promises.proofs.Told.{told, same-told, by-block5}
 
 -- accepted exactly when there are good values, entries and counts that make it
 pub exactly : (s : List ℕ) → Bytes s → IsAccepted s ↔ Made s
@@ -68,7 +79,8 @@ takes-exactly = tiling.takes-exactly
 pub lawful : (v : Header) (e : Entries) → Fit v e → (ruled v e (length (encode v e)) ≡ fine) ↔ Lawful v e
 lawful = lawful-exactly
 
--- ---- of the functions' own answers (Calls: `Read`, `Written`, `Answered`)
+-- ---- of the functions' own answers (Calls: `Read`, `Written`, `Answered`). What is left of hypotheses, `Bytes` and `Fit`, are the bounds of the types that
+-- these functions take, u8 to u64 and arrays of so many bytes: every call meets them, but a `Post` does not say so.
 
 -- Read, then written: of a file of which `read` says Fine, the other readers do, and the writer, given what the four gave and an output with room, says Fine, puts
 -- the file's own header there, byte for byte, and leaves the rest of the output.
@@ -80,6 +92,27 @@ read-written {s} {l} {out} {r = r} b rd q wr room =
     let h = got rd g in
     let k = tiling.rewrites s b (tiling.fine-accepted s g) l r out room (rw (h .header, h .entries) at (wrote wr)) in
     (h .others, fine-is r (k .0), k .1)
+
+-- What acceptance tells of a file is told of the values and entries that the readers give (Told: `Told`).
+pub accepted-told : {s : List ℕ} {x : Answer} {f : Facts} {w : Verdict} {ws : List Verdict} {v : Header} {e : Entries} → Bytes s
+    → Answered s x → x ≡ Accepted f → Read s w ws v e → Told f v e
+unfolding paperAnswer answerOf
+accepted-told {s} {f = f} b (answered κ a x t p i) q rd =
+    let y : answerOf s ≡ says f = ap answerOf (sym i) ∙ sym p ∙ ap paperAnswer q in
+    let g = said (judge fine (checks s)) (factsOf s) f y in
+    let m = tiling.says-made s b f y in
+    let h = got rd (g .0) in
+    let k = tiling.reads-back s m in
+    same-told (sym (g .1)) (h .header ∙ k .0) (h .entries ∙ k .1) (told s m)
+
+-- Gain and constant travel together from block 5: what C reads of a count by the answer to an accepted file is its reading by the values that the readers give.
+pub read-by-block5 : {s : List ℕ} {w : Verdict} {ws : List Verdict} {v : Header} {e : Entries} → Bytes s → Read s w ws v e
+    → (κ₁ : _) (a₁ : _) (r : _) (t₁ : _) → hsd-accept.Post κ₁ a₁ r t₁ → now (a₁ .0) ≡ s → r .refusal ≡ 0
+    → (κ : _) (a : _) (x : _) (t : _) → hsd-reading.Post κ a x t → a .0 ≡ r
+    → x ≡ shownReading (readingOf (calibrationOf (v .block5 .gain) (v .block5 .constant) (v .block5 .bits)) (a .1 .0))
+read-by-block5 {s} b rd κ₁ a₁ r t₁ p₁ i z κ a x t p q =
+    let y : r ≡ shownFile (answerOf s) = p₁ ∙ ap (λ (l : List ℕ). shownFile (answerOf l)) i in
+    p ∙ ap (λ (c : Calibration). shownReading (readingOf c (a .1 .0))) (ap calibrationC (q ∙ y) ∙ by-block5 b rd (ap (λ (h : HsdFile). h .refusal) (sym y) ∙ z))
 
 -- Written, then read: of values and entries of their types of which the writer says Fine, what it wrote, with counts of the right length after it, is accepted, and the
 -- four readers give back exactly those values and entries.
@@ -94,6 +127,9 @@ module _ {l out : List ℕ} {v : Header} {e : Entries} (fit : Fit v e) (wr : Wri
 
   pub written-accepted : {x : Answer} → Answered file x → x ≡ Accepted (factsOf file)
   written-accepted (answered κ a x t p i) = answers κ a x t p (rw i (made .0)) ∙ rw i
+
+  pub written-told : Told (factsOf file) v e
+  written-told = same-told refl (sym (made .1)) (sym (made .2)) (told file (made .0))
 
   pub written-read : {w : Verdict} {ws : List Verdict} {v′ : Header} {e′ : Entries} → Read file w ws v′ e′
       → (w ≡ Fine) × (ws ≡ Fine ∷ Fine ∷ Fine ∷ []) × (v′ ≡ v) × (e′ ≡ e)

@@ -15,6 +15,7 @@ use Rattle.frame.specs.declared.Record.{Record}
 use Rattle.frame.specs.Counts.{countsOf}
 use Rattle.frame.specs.Records.{marked}
 use Rattle.frame.proofs.offer.Reads as offering
+use Rattle.plugin_frames.proofs.hsd_open.Reads as hsd-open
 use Rattle.assembly.specs.History.{File, alreadies, placed, bears, came, Apart, Agree, alone, lineIn, withinOf}
 use Rattle.assembly.specs.Runs.{Call, files, rulings, Ran, Asked}
 use Rattle.assembly.proofs.Demand.{apart-agree}
@@ -81,7 +82,12 @@ module _ (s : Slate) (ok : goodSlate s ≡ true) (lent : List ℕ) (fits : lengt
     pub same-total : alreadies (rulings cs) ≡ alreadies (rulings ds)
     same-total = runs.same-total s ok lent fits run other fits' run' order
 
--- ---- from C. `RanC` says that the calls were made: of `hsd_open`, which was not refused, then of `hsd_offer`, each with that same slate and the
+-- ---- from C. Opening makes an empty record of any 99 marks: for a good slate and a strip of its size it is never refused.
+pub opens-c : (κ : _) (a : _) (r : _) (t : _) → hsd-open.Post κ a r t → length (now (a .1 .0)) ≡ 99 → goodSlate (slateIn (a .0)) ≡ true → length (now (a .1 .1 .0)) ≡ frameSize (slateIn (a .0))
+    → (r .refusal ≡ 0) × (now (t .1 .0) ≡ replicate 99 0) × (now (t .1 .1 .0) ≡ replicate (length (now (a .1 .1 .0))) 65534)
+opens-c = from.opens
+
+-- `RanC` says that the calls were made: of `hsd_open`, which was not refused, then of `hsd_offer`, each with that same slate and the
 -- marks and the frame as the call before left them.
 module _ {s : HsdSlate} {lent : List ℕ} {cs : List Offer} {marks frame : List ℕ} (run : RanC s lent cs marks frame) where
   -- it is a run as above, over the same files: the frame is the same, the marks are its record, and the answers its verdicts; the slate is good and the strip fits

@@ -87,7 +87,7 @@ number-allowed rs h fine x e = refl
 number-allowed rs h (refused (turned n b)) x e = rw (refused-in rs h (turned n b) (sym e)) (or-true (eqb n 0))
 
 -- what is shown of no refusal is none
-none-fine : (n b : ℕ) → allowed (turned n b) ≡ true → n ≡ 0 → ⊥
+pub none-fine : (n b : ℕ) → allowed (turned n b) ≡ true → n ≡ 0 → ⊥
 unfolding allowed
 none-fine n b h e = let z : allowed (turned 0 b) ≡ true = rw e at h in let q : _≡_ {A = ℕ} 0 1 = cc in omega arith
 

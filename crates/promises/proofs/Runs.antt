@@ -10,9 +10,10 @@ use lib.Seq.{ext-getD, getD-at}
 use lib.Dec.{eqb, leb}
 use borrow.Author.Tests.{leb-true, leb-false, le-leb, eq-eqb, eqb-true, eqb-false, ne-eqb, lt-leb}
 use denote.Ref.{now}
+use Rattle.wire.specs.Wire.{tab}
 use Rattle.wire.proofs.Rows.{length-tab, getD-tab}
 use Rattle.rules.specs.Rules.{Ruling, Turned, turned, numberOf, tables, fine, refused, paper, after}
-use Rattle.rules.proofs.Judge.{exactly, each-is}
+use Rattle.rules.proofs.Judge.{exactly, each-is, holds}
 use Rattle.rules.proofs.Paper.{named, refusalOf, verdictOf}
 use Rattle.slate.specs.declared.Slate.{Slate}
 use Rattle.slate.specs.Cut.{coverOf}
@@ -30,18 +31,14 @@ use Rattle.tiling.proofs.Lawful.{below}
 use Rattle.plugin_frames.specs.declared.HsdSlate.{HsdSlate}
 use Rattle.plugin_frames.specs.declared.HsdAnswer.{HsdAnswer}
 use Rattle.plugin_frames.specs.Strips.{slateIn, shownRuling, longMarks, isBit, bitsFrom, goodMarks, lent, flags, marksIn, marksOut, openedC, offeredC, openMarks, openStrip, offerMarks, lineC, copiedOf, copyOf}
-use Rattle.plugin_frames.proofs.Lending.{lent-good, offer-strip}
+use Rattle.plugin_frames.proofs.Lending.{length-flags, lent-good, offer-strip}
+use Rattle.plugin_frames.proofs.hsd_open.Reads as hsd-open
 use Rattle.promises.specs.Blocks.{allowed}
 use Rattle.promises.specs.Runs.{Offer, filesOf, answersOf, RanC, opened, offered, AskedC, asked}
-use Rattle.promises.proofs.Refusals.{refused-in}
+use Rattle.promises.proofs.Refusals.{refused-in, none-fine}
 use Rattle.promises.proofs.Demand1.{in-opening, in-offering, in-lent}
 
 -- ---- marks out and in again
-
-length-flags : (m : List ℕ) (n : ℕ) → length (flags m n) ≡ n
-unfolding flags
-length-flags m zero = refl
-length-flags m (suc n) = rw (length-append, length-flags m n, add-one)
 
 getD-flags : (m : List ℕ) (n i : ℕ) → i < n → getD (flags m n) i false ≡ eqb (getD m i 0) 1
 unfolding flags
@@ -167,9 +164,25 @@ paper-back (refused (turned n b)) h = rw (number-back n b (h (turned n b) refl))
 
 -- what is shown as no refusal is none
 shown-fine : (r : Ruling) → ((u : Turned) → r ≡ refused u → allowed u ≡ true) → shownRuling r .refusal ≡ 0 → r ≡ fine
-unfolding shownRuling allowed
+unfolding shownRuling
 shown-fine fine h e = refl
-shown-fine (refused (turned n b)) h e = absurd (let z : allowed (turned 0 b) ≡ true = rw e at (h (turned n b) refl) in let q : _≡_ {A = ℕ} 0 1 = cc in omega arith)
+shown-fine (refused (turned n b)) h e = absurd (none-fine n b (h (turned n b) refl) e)
+
+-- ---- opening
+
+no-marks : marksOut noMarks ≡ replicate 99 0
+unfolding tab
+no-marks = refl
+
+pub opens : (κ : _) (a : _) (r : _) (t : _) → hsd-open.Post κ a r t → length (now (a .1 .0)) ≡ 99 → goodSlate (slateIn (a .0)) ≡ true → length (now (a .1 .1 .0)) ≡ frameSize (slateIn (a .0))
+    → (r .refusal ≡ 0) × (now (t .1 .0) ≡ replicate 99 0) × (now (t .1 .1 .0) ≡ replicate (length (now (a .1 .1 .0))) 65534)
+unfolding frames.opening frames.openFrame slated shownRuling openMarks openStrip after
+opens κ a r t p long ok fits =
+    let size = length (now (a .1 .1 .0)) in
+    let rows = frames.opening (slateIn (a .0)) size in
+    let free : frames.opened (slateIn (a .0)) size ≡ fine = exactly rows .1 (holds ok (holds (eq-eqb _ _ fits) tt)) in
+    let good : openedC (a .0) (now (a .1 .0)) size ≡ fine = lent-good (longMarks (now (a .1 .0))) rows (eq-eqb _ _ long) ∙ free in
+    (ap (λ (h : HsdAnswer). h .refusal) (p .0 ∙ ap shownRuling good), p .1 .0 ∙ rw good no-marks, p .1 .1 ∙ rw (good, free))
 
 -- ---- the lifting
 

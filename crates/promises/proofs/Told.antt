@@ -1,9 +1,12 @@
 -- The facts of a file that is made are those of its values and entries. Assumes nothing.
-use mathlib.Core.Path.{_≡_, sym, ap, _∙_}
+use mathlib.Core.Path.{_≡_, refl, sym, ap, _∙_}
 use mathlib.Core.List.{List}
 use Prim.Native.Nat.{ℕ, _+_}
 use lib.ListN.{length}
-use Rattle.wire.specs.Wire.{num}
+use Rattle.wire.specs.Wire.{Bytes, num}
+use Rattle.rules.specs.Rules.{fine, judge, reply}
+use Rattle.rules.specs.declared.Verdict.{Verdict}
+use Rattle.reading.specs.Counts.{calibrationOf}
 use Rattle.header.specs.declared.Header.{Header}
 use Rattle.header.specs.Places.{orderOf, aOf, bOf, cOf, at9, at10, headerLength}
 use Rattle.header.specs.Values.{headerOf}
@@ -11,13 +14,24 @@ use Rattle.header.specs.Encode.{Entries}
 use Rattle.header.specs.Entries.{entriesOf}
 use Rattle.format.specs.Ranges.{satelliteOf}
 use Rattle.format.specs.Names.{dateOf, dayOr0}
-use Rattle.accept.specs.Answers.{factsOf}
+use Rattle.accept.specs.declared.Facts.{Facts}
+use Rattle.accept.specs.Checks.{checks}
+use Rattle.accept.specs.Answers.{factsOf, calibrationIn, answerOf}
+use Rattle.plugin.specs.Plugin.{shownFile, calibrationC}
 use Rattle.tiling.specs.Lawful.{Named}
 use Rattle.tiling.specs.Made.{Made}
 use Rattle.tiling.proofs.Back.{long}
 use Rattle.tiling.proofs.Lawful.{satellite-of, dated}
-use Rattle.tiling.proofs.Exactly.{reads-back}
+use Rattle.tiling.proofs.Exactly.{says-made, reads-back}
+use Rattle.promises.specs.Calls.{Read}
 use Rattle.promises.specs.Told.{Told}
+use Rattle.promises.proofs.Refusals.{file-fine}
+use Rattle.promises.proofs.Demand1.{in-checks}
+use Rattle.promises.proofs.Calls.{got}
+
+-- what is told of equals
+pub same-told : {f g : Facts} {v w : Header} {e d : Entries} → f ≡ g → v ≡ w → e ≡ d → Told g w d → Told f v e
+same-told p q r t = rw (p, q, r) t
 
 module _ (s : List ℕ) (m : Made s) where
   abbrev is : headerOf s ≡ m .v
@@ -70,3 +84,14 @@ module _ (s : List ℕ) (m : Made s) where
         name = record { y = named .y; m = named .m; d = named .d; date = named .date; is = rw called (named .is) };
         day = day ∙ ap dayOr0 (dated named);
       }
+
+-- what C reads the counts of an accepted file by, of the values that the readers give
+pub by-block5 : {s : List ℕ} {w : Verdict} {ws : List Verdict} {v : Header} {e : Entries} → Bytes s → Read s w ws v e → shownFile (answerOf s) .refusal ≡ 0
+    → calibrationC (shownFile (answerOf s)) ≡ calibrationOf (v .block5 .gain) (v .block5 .constant) (v .block5 .bits)
+unfolding answerOf reply shownFile calibrationIn
+by-block5 {s} {v = v} b rd z =
+    let g : judge fine (checks s) ≡ fine = file-fine (checks s) (in-checks s) (judge fine (checks s)) (factsOf s) refl z in
+    let m = says-made s b (factsOf s) (rw g) in
+    let h = told s m in
+    let k : m .v ≡ v = sym (reads-back s m .0) ∙ sym (got rd g .header) in
+    rw g (λ i. calibrationOf ((h .gain ∙ ap (λ (v : Header). v .block5 .gain) k) i) ((h .constant ∙ ap (λ (v : Header). v .block5 .constant) k) i) ((h .bits ∙ ap (λ (v : Header). v .block5 .bits) k) i))

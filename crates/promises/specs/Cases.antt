@@ -2,12 +2,20 @@
 use mathlib.Core.Path.{_≡_}
 use mathlib.Core.Bool.{true, false}
 use mathlib.Core.List.{List, [], _∷_}
-use Prim.Native.Nat.{ℕ}
+use Prim.Native.Nat.{ℕ, _+_}
 use lib.IntN.{ℤ, pos, negsuc}
 use lib.Ieee.{Float, fin}
-use Rattle.rules.specs.Rules.{turned, Ruling, fine, refused, judge, Reply, says, refuses}
-use Rattle.header.specs.Places.{length8, length9, length10, headerLength}
-use Rattle.writer.specs.Given.{lengths8}
+use lib.ListN.{length}
+use Rattle.wire.specs.Wire.{span}
+use Rattle.rules.specs.Rules.{Turned, turned, Row, tables, Ruling, fine, refused, judge, Reply, says, refuses}
+use Rattle.header.specs.declared.Header.{Header}
+use Rattle.header.specs.Places.{orderOf, aOf, bOf, cOf, length8, length9, length10, headerLength, lengthOf, dataLength}
+use Rattle.header.specs.Values.{block2Of}
+use Rattle.header.specs.Encode.{Entries}
+use Rattle.accept.specs.Checks.{fields1, fields2, fields5, fields7, sums, ends, blocks1to4, blocks5to7, blocks8to11}
+use Rattle.accept.specs.Answers.{answerOf}
+use Rattle.writer.specs.Given.{orders, lengths8, ruled}
+use Rattle.tiling.specs.Lawful.{text}
 use Rattle.calendar.specs.Dates.{dayOf}
 use Rattle.calendar.specs.Shots.{slotOf, filmFrameOf}
 use Rattle.reading.specs.declared.Reading.{Reading}
@@ -23,14 +31,29 @@ pub data Case : Type 0 where
   block10 : ℕ → ℕ → Case
   -- so many entries of block 8: what the writer says of their number
   written8 : ℕ → Ruling → Case
+  -- so many that, whatever else is given, nothing is written: the refusal where nothing before is wrong
+  unwritten8 : ℕ → Turned → Case
   -- a gain, a constant, valid bits and a count: its reading
   count : Float → Float → ℕ → ℕ → Reading → Case
   -- a year, month and day: its Modified Julian Day
   date : ℕ → ℕ → ℕ → Reply ℕ → Case
+  -- eight bytes for the date in the name of a file whose every other check holds: its refusal
+  name : List ℕ → Turned → Case
   -- a day and timeline: its slot
   slot : ℕ → ℕ → Reply ℕ → Case
   -- the first shot's day and timeline, and the shot's: its film frame number
   film : ℕ → ℕ → ℕ → ℕ → Reply ℤ → Case
+
+-- every check of a file but NAME
+abbrev pub others : List ℕ → List (List Row)
+others s =
+    let o = orderOf s in
+    let counts = dataLength (block2Of s o .columns) (block2Of s o .lines) in
+    blocks1to4 s o ∷ blocks5to7 s o ∷ blocks8to11 s o (aOf s) (bOf s) (cOf s) ∷ sums s o (lengthOf s) counts ∷ ends s (lengthOf s) counts ∷ []
+
+-- every check of the writer before block 8
+abbrev pub before8 : Header → List (List Row)
+before8 v = orders (v .block1 .order) ∷ fields1 (v .block1) ∷ fields2 (v .block2) ∷ fields5 (v .block5) ∷ fields7 (v .block7) (v .block2 .lines) ∷ []
 
 abbrev pub Holds : Case → Type 0
 Holds (header a b c n) = headerLength a b c ≡ n
@@ -38,8 +61,10 @@ Holds (block8 a n) = length8 a ≡ n
 Holds (block9 b n) = length9 b ≡ n
 Holds (block10 c n) = length10 c ≡ n
 Holds (written8 a r) = judge fine (lengths8 a a a) ≡ r
+Holds (unwritten8 a u) = (v : Header) (e : Entries) (n : ℕ) → length (e .lines8) ≡ a → (ruled v e n ≡ fine → ⊥) × (judge fine (tables (before8 v)) ≡ fine → ruled v e n ≡ refused u)
 Holds (count g k bits n r) = readingOf (record { gain = g; constant = k; bits = bits }) n ≡ r
 Holds (date y m d r) = dayOf y m d ≡ r
+Holds (name day u) = (s : List ℕ) → judge fine (tables (others s)) ≡ fine → span s (114 + 7) 8 ≡ day → answerOf s ≡ refuses u
 Holds (slot d t r) = slotOf d t ≡ r
 Holds (film d₀ t₀ d t r) = filmFrameOf d₀ t₀ d t ≡ r
 
@@ -69,7 +94,7 @@ table =
     ∷ header 4 2 0 1523
     ∷ block8 6547 65531
     ∷ written8 6547 fine
-    ∷ written8 6548 (refused (turned 4 8))
+    ∷ unwritten8 6548 (turned 4 8)
     ∷ block9 6549 65535
     ∷ block10 65535 262187
     ∷ header 6547 6549 65535 394563
@@ -80,7 +105,7 @@ table =
     ∷ count huge minusOne 11 2 Uncalibrated
     ∷ date 2015 7 7 (says 57210)
     ∷ date 2099 12 31 (says 88068)
-    ∷ date 2023 2 29 (refuses (turned 10 1))
+    ∷ name (text "20230229") (turned 10 1)
     ∷ slot 57210 200 (says 8238252)
     ∷ film 57209 2350 57210 0 (says (pos 1))
     ∷ film 57210 0 57209 2350 (says (negsuc 0))

@@ -111,3 +111,17 @@ pub each-of : (ts : List (List Row)) → Each ts → Holds (tables ts)
 unfolding tables
 each-of [] h = tt
 each-of (t ∷ ts) h = holds-join t (tables ts) (h .0) (each-of ts (h .1))
+
+first-after : (xs : List Row) {ys : List Row} {u : Turned} → Holds xs → First ys u → First (xs ++ ys) u
+first-after [] h f = f
+first-after (test ok t ∷ xs) h f = later (h .0) (first-after xs (h .1) f)
+
+first-before : {xs : List Row} {u : Turned} (ys : List Row) → First xs u → First (xs ++ ys) u
+first-before ys (here e) = here e
+first-before ys (later e f) = later e (first-before ys f)
+
+-- a table in which a row fails, after tables whose tests all hold and before any others
+pub first-table : (ts : List (List Row)) (t : List Row) (us : List (List Row)) {u : Turned} → Each ts → First t u → First (tables (ts ++ (t ∷ us))) u
+unfolding tables
+first-table [] t us h f = first-before (tables us) f
+first-table (x ∷ ts) t us h f = first-after x (h .0) (first-table ts t us (h .1) f)
