@@ -3,9 +3,19 @@
  * What holds for every function here:
  *  - It answers whatever the numbers and bytes are: nothing needs to have been checked before.
  *  - It allocates nothing and keeps nothing; calls in several threads at once are fine.
- *  - A pointer and a length lend it so many elements. The pointer must not be NULL, even when the length is 0. What is
- *    lent in one call must not overlap, and nobody else may change it meanwhile.
- *  - A refusal changes no lent element, and shows its number and its block: everything else in the answer is 0. */
+ *  - A refusal changes no lent element, and shows its number and its block: everything else in the answer is 0.
+ *
+ * What it needs from you, since no function can check it:
+ *  - A pointer and a length lend it so many elements of readable (or writable) memory. The pointer must not be NULL, even
+ *    when the length is 0. A pointer to counts is aligned for uint16_t, one to bytes need not be aligned at all.
+ *  - Lent memory is private to the call: nobody else, no other thread, process or device, may write to it meanwhile. So
+ *    never lend a mapped file, which another process can change: read it into memory of your own. A file that changed
+ *    between its checks and its copying could be written past the frame's end.
+ *  - What a function writes (a pointer without const) overlaps nothing else that is lent in the same call. Things that it
+ *    only reads may overlap.
+ *  - The processor computes floating-point numbers as a C program finds it at its start: rounding to nearest, and no
+ *    flushing of small numbers to zero (not FTZ, not DAZ). In another mode hsd_read_count and hsd_reading give other
+ *    numbers. */
 #ifndef HSD_H
 #define HSD_H
 
@@ -71,7 +81,8 @@ typedef struct HsdFile {
     uint16_t first_line;    /* of the segment in the frame; lines count from 1 */
     uint16_t valid_bits;    /* 11, 12 or 14, by the band */
     uint8_t order;          /* of the bytes: 0 little-endian, 1 big-endian */
-    uint32_t header_length; /* bytes; the counts follow, 2 bytes each, line by line */
+    uint32_t header_length; /* bytes, always an odd number; the counts follow, 2 bytes each, line by line: so they stand
+                               at odd places, and must be read byte by byte (or by hsd_offer), not through a uint16_t * */
     double gain;            /* any NaN's pattern in the file is some NaN here */
     double constant;        /* the same */
 } HsdFile;
@@ -85,7 +96,11 @@ typedef struct HsdReading {
     uint8_t kind;    /* HSD_RADIANCE to HSD_UNCALIBRATED */
 } HsdReading;
 
-/* Reads a count, given as a number: gain times count, rounded once, plus constant, rounded once. */
+/* Reads a count, given as a number, of a file that hsd_accept has accepted: by the file's own gain and constant, which
+ * travel together, and its valid bits. */
+HsdReading hsd_reading(HsdFile file, uint16_t count);
+
+/* The same with these given one by one: gain times count, rounded once, plus constant, rounded once. */
 HsdReading hsd_read_count(double gain, double constant, uint16_t valid_bits, uint16_t count);
 
 /* A shot's number on the film. */
@@ -121,11 +136,12 @@ typedef struct HsdAnswer {
 } HsdAnswer;
 
 /* A record of what is in is HSD_MARKS bytes, each 0 or 1: marks[k - 1] is 1 when segment k is in. Another length or another
- * byte is HSD_SLATE, and so is a mark beyond the slate's total, but for hsd_open, which clears it. A frame is total x lines x
- * columns counts, line by line; frame_length counts counts, not bytes. */
+ * byte is HSD_SLATE, and so is a mark beyond the slate's total. A frame is total x lines x columns counts, line by line;
+ * frame_length counts counts, not bytes. */
 
 /* Starts a frame: HSD_SLATE, HSD_STRIP, or fine. When fine, every mark is 0 and every count of the frame is 65,534: that is
- * also a lawful count, so the marks alone say what is in. Marks that were never set begin as zeros. */
+ * also a lawful count, so the marks alone say what is in. It makes the record and reads none: whatever the HSD_MARKS bytes
+ * hold will do, and only another length is HSD_SLATE. */
 HsdAnswer hsd_open(HsdSlate slate, uint8_t *marks, size_t marks_length, uint16_t *frame, size_t frame_length);
 
 /* Offers a file: HSD_SLATE, HSD_STRIP, HSD_SHORT to HSD_TAIL, HSD_OTHER_SHOT, HSD_ALREADY, or fine. When fine, the

@@ -1,4 +1,4 @@
-/* Twenty million readings against a multiplication and an addition in C, bit for bit. Compiled with -ffp-contract=off. */
+/* Twenty million readings, every second one by a file's answer, against a multiplication and an addition in C, bit for bit. Compiled with -ffp-contract=off. */
 #include <float.h>
 #include <string.h>
 
@@ -80,7 +80,8 @@ int main(void)
     for (unsigned long i = 0; i < calls; i++) {
         double gain = any_double(), constant = any_double();
         uint16_t bits = (uint16_t)(any() % 20), count = any_count();
-        HsdReading given = hsd_read_count(gain, constant, bits, count);
+        HsdFile file = {.valid_bits = bits, .gain = gain, .constant = constant};
+        HsdReading given = i % 2 ? hsd_reading(file, count) : hsd_read_count(gain, constant, bits, count);
         HsdReading wanted = expected(gain, constant, bits, count);
         wrong += given.kind != wanted.kind || bits_of(given.radiance) != bits_of(wanted.radiance);
         kinds[wanted.kind]++;

@@ -140,7 +140,8 @@ impl Stage {
     }
 
     pub fn open(&mut self, slate: &Slate) -> Result<(), Refusal> {
-        self.record()?;
+        // a record is made and none is read: of the lent marks only their number counts
+        demand(self.marks.len() == MARKS, SLATE, 0)?;
         let record = assemble::open(slate, &mut self.frame)?;
         self.keep(&record);
         Ok(())
