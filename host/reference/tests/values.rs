@@ -5,6 +5,7 @@ use reference::damage;
 use reference::images::{Images, REFUSALS};
 use reference::make::{Recipe, Sample, GREATEST_A, GREATEST_B, GREATEST_C};
 use reference::random::Random;
+use reference::readers::verdicts;
 use reference::tally::Tally;
 use reference::Values;
 
@@ -394,6 +395,41 @@ fn of_two_faults_the_earlier_answers() {
             }
         }
     }
+}
+
+#[test]
+fn the_readers_of_entries_ask_for_room() {
+    let read = |file: &[u8], room: usize| {
+        verdicts(&accept(file), room).map(|verdict| match verdict {
+            Ok(()) => (0, 0),
+            Err(refusal) => (refusal.number, refusal.block),
+        })
+    };
+    for order in [0, 1] {
+        let mut file = make(&Recipe {
+            order,
+            a: 2,
+            b: 4,
+            c: 3,
+            ..Recipe::plain()
+        })
+        .bytes;
+        for room in [4, 5, 65_536] {
+            assert_eq!(read(&file, room), [(0, 0); 4]);
+        }
+        assert_eq!(read(&file, 3), [(0, 0), (0, 0), (17, 0), (0, 0)]);
+        assert_eq!(read(&file, 2), [(0, 0), (0, 0), (17, 0), (17, 0)]);
+        assert_eq!(read(&file, 1), [(0, 0), (17, 0), (17, 0), (17, 0)]);
+        assert_eq!(read(&file, 0), [(0, 0), (17, 0), (17, 0), (17, 0)]);
+        // The file's own refusal comes first.
+        file.pop();
+        for room in [0, 2, 65_536] {
+            assert_eq!(read(&file, room), [(11, 12); 4]);
+        }
+    }
+    let none = make(&Recipe::plain()).bytes;
+    assert_eq!(read(&none, 0), [(0, 0); 4]);
+    assert_eq!(read(&[], 0), [(1, 1); 4]);
 }
 
 #[test]
