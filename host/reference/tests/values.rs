@@ -1,11 +1,11 @@
-//! The header's writer: what it reads from an image, what it writes, and what it refuses.
+//! The header's readers and writer: what is read from an image, what is written, and what is refused.
 
 use reference::accept::{accept, FIELD, LENGTH, NAME, ORDER, PACKED, ROOM};
 use reference::damage;
 use reference::images::{Images, REFUSALS};
 use reference::make::{Recipe, Sample, GREATEST_A, GREATEST_B, GREATEST_C};
 use reference::random::Random;
-use reference::readers::verdicts;
+use reference::readers::{verdicts, Readings};
 use reference::tally::Tally;
 use reference::Values;
 
@@ -436,14 +436,18 @@ fn the_readers_of_entries_ask_for_room() {
 fn the_images_reach_every_answer() {
     let images = Images::new(12_000);
     let mut tally = Tally::new("written", &REFUSALS);
+    let mut readings = Readings::new();
     for number in 0..images.cases {
         let asked = images.case(number);
-        assert!(asked.image.len() <= 65_536 && asked.room <= 400_000);
+        assert!(asked.image.len() <= 65_536 && asked.room <= 400_000 && asked.entries <= 65_536);
         let again = Values::of_image(&asked.image).write(asked.room);
-        assert!(again == asked.expected);
+        assert!(again == asked.written);
         tally.count(asked.kind, &again);
+        readings.count(&asked.file, asked.entries, again.is_ok());
     }
     tally.print();
+    readings.print();
     let least = images.cases / 600;
     tally.check(images.cases / 12, least, least);
+    readings.check(images.cases);
 }
