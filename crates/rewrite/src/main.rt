@@ -1,7 +1,10 @@
-// Reads header values out of any bytes, as a file would have them, and writes them again: the host tests compare its answers with an independent writer.
-// Numbers are little-endian. A request: the image's length, the output's length, 4 bytes each, and the image.
-// Its answer: the refusal's number and block, a byte each, 0 and 0 for none, and the output.
+// Has any bytes read by the four readers, and writes what they read: the host tests compare its answers with an independent reader and writer.
+// Numbers are little-endian. A request: the image's length, the output's length, how many entries each slice lent to a reader has room for
+// (beyond 65,536 counts as that), 4 bytes each, and the image. Its answer: what reader::read, read_shifts, read_times, read_errors and the writer say,
+// a refusal's number and block each, a byte each, 0 and 0 for none; and the output.
+// Where a reader refuses, the writer is given what the image states, read as a file would have it.
 mod entries;
+mod raw;
 mod serve;
 
 // The image, the output and the entries have their places here, and are lent to every request.

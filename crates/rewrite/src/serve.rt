@@ -1,13 +1,16 @@
 // Requests, one after the other, and their answers.
 use crate::entries;
+use crate::raw;
+use header::Header;
 use libc::STDIN_FILENO;
 use libc::STDOUT_FILENO;
 use rules::Verdict;
 
-// How long a request's image and output are.
-struct Lengths {
+// How long a request's image and output are, and how many entries each lent list has room for.
+struct Request {
     image: usize,
     output: usize,
+    room: usize,
 }
 
 // The byte that every output is filled with before it is written: it shows what was kept.
@@ -19,21 +22,54 @@ fn blank(out: &mut [u8]) {
     }
 }
 
-// The refusal's number and block.
-fn told(v: Verdict) -> [u8; 2] {
+// Notes a refusal's number and block at a place, where zeros are, and says whether there was none.
+fn fine(notes: &mut [u8; 10], at: usize, v: Verdict) -> bool {
     match v {
-        Verdict::Fine => [0, 0],
+        Verdict::Fine => true,
         Verdict::Refused(t) => {
             let why = t.why;
-            [rules::number_of(why), t.block]
+            wire::put2(notes, at, [rules::number_of(why), t.block]);
+            false
         }
     }
 }
 
-// Writes the image's values, and of each list as many entries as the image states.
-fn rewrite(
+// Has an image read by the four readers, and notes what they say. The values and entries are theirs,
+// or what the image states where one of them refuses.
+fn read(
+    s: &[u8],
+    room: usize,
+    notes: &mut [u8; 10],
+    lines8: &mut [u16; 65536],
+    xs: &mut [u32; 65536],
+    ys: &mut [u32; 65536],
+    lines9: &mut [u16; 65536],
+    times: &mut [u64; 65536],
+    lines10: &mut [u16; 65536],
+    pixels: &mut [u16; 65536],
+) -> Header {
+    let first = reader::read(s);
+    let v = first.verdict;
+    let v8 = entries::read8(s, room, lines8, xs, ys);
+    let v9 = entries::read9(s, room, lines9, times);
+    let v10 = entries::read10(s, room, lines10, pixels);
+    let fine8 = fine(notes, 2, v8);
+    let fine9 = fine(notes, 4, v9);
+    let fine10 = fine(notes, 6, v10);
+    if fine(notes, 0, v) & fine8 & fine9 & fine10 {
+        return first.header;
+    }
+    raw::read8(s, lines8, xs, ys);
+    raw::read9(s, lines9, times);
+    raw::read10(s, lines10, pixels);
+    header::read_header(s)
+}
+
+// Writes a header over blanks, and of each list as many entries as the image states.
+fn write(
     s: &[u8],
     out: &mut [u8],
+    h: Header,
     lines8: &[u16],
     xs: &[u32],
     ys: &[u32],
@@ -45,9 +81,10 @@ fn rewrite(
     let a = header::a_of(s) as usize;
     let b = header::b_of(s) as usize;
     let c = header::c_of(s) as usize;
+    blank(out);
     writer::write(
         out,
-        header::read_header(s),
+        h,
         entries::first16(lines8, a),
         entries::first32(xs, a),
         entries::first32(ys, a),
@@ -58,29 +95,17 @@ fn rewrite(
     )
 }
 
-// Answers for an image whose entries are in these lists.
-fn tell(
-    s: &[u8],
-    out: &mut [u8],
-    lines8: &[u16],
-    xs: &[u32],
-    ys: &[u32],
-    lines9: &[u16],
-    times: &[u64],
-    lines10: &[u16],
-    pixels: &[u16],
-) {
-    blank(out);
-    let told = told(rewrite(s, out, lines8, xs, ys, lines9, times, lines10, pixels));
-    io::write_all(STDOUT_FILENO, &told);
+fn send(notes: &[u8; 10], out: &[u8]) {
+    io::write_all(STDOUT_FILENO, notes);
     io::write_all(STDOUT_FILENO, out);
 }
 
 // No request: no output is so long.
-fn none() -> Lengths {
-    Lengths {
+fn none() -> Request {
+    Request {
         image: 0,
         output: 0xffff_ffff,
+        room: 0,
     }
 }
 
@@ -93,42 +118,60 @@ fn heard(image: &mut [u8], n: usize) -> bool {
 }
 
 // Reads the next request, its image into its place.
-fn asked(image: &mut [u8]) -> Lengths {
-    let mut sizes = [0u8; 8];
-    if io::read_full(STDIN_FILENO, &mut sizes) < 8 {
+fn asked(image: &mut [u8]) -> Request {
+    let mut sizes = [0u8; 12];
+    if io::read_full(STDIN_FILENO, &mut sizes) < 12 {
         return none();
     }
     let n = wire::u32_at(&sizes, 0, 0) as usize;
     let output = wire::u32_at(&sizes, 4, 0) as usize;
+    let room = wire::u32_at(&sizes, 8, 0) as usize;
     if !heard(image, n) {
         return none();
     }
-    Lengths { image: n, output }
+    Request {
+        image: n,
+        output,
+        room,
+    }
 }
 
-// Answers one request, and says whether there was one: a length that is more than its place holds ends the requests, too.
+// Answers one request: what the readers say, what the writer says, and the output. Says whether there was one:
+// a length that is more than its place holds ends the requests, too.
 fn answer(
     image: &[u8],
-    n: Lengths,
+    n: Request,
     out: &mut [u8],
-    lines8: &mut [u16],
-    xs: &mut [u32],
-    ys: &mut [u32],
-    lines9: &mut [u16],
-    times: &mut [u64],
-    lines10: &mut [u16],
-    pixels: &mut [u16],
+    lines8: &mut [u16; 65536],
+    xs: &mut [u32; 65536],
+    ys: &mut [u32; 65536],
+    lines9: &mut [u16; 65536],
+    times: &mut [u64; 65536],
+    lines10: &mut [u16; 65536],
+    pixels: &mut [u16; 65536],
 ) -> bool {
     let s = wire::piece(image, 0, n.image);
-    let room = n.output;
-    if out.len() < room {
+    let length = n.output;
+    if out.len() < length {
         return false;
     }
-    entries::read8(s, lines8, xs, ys);
-    entries::read9(s, lines9, times);
-    entries::read10(s, lines10, pixels);
-    let out = &mut out[0..room];
-    tell(s, out, lines8, xs, ys, lines9, times, lines10, pixels);
+    let out = &mut out[0..length];
+    let mut notes = [0u8; 10];
+    let h = read(
+        s,
+        n.room,
+        &mut notes,
+        lines8,
+        xs,
+        ys,
+        lines9,
+        times,
+        lines10,
+        pixels,
+    );
+    let v = write(s, out, h, lines8, xs, ys, lines9, times, lines10, pixels);
+    fine(&mut notes, 8, v);
+    send(&notes, out);
     true
 }
 

@@ -13,7 +13,7 @@ pub const DATA_SUM: u8 = 9;
 pub const NAME: u8 = 10;
 pub const CUT: u8 = 11;
 pub const TAIL: u8 = 12;
-/// Only the writer gives this one.
+/// Not of a file: the writer's output, or a slice lent for entries, is too short.
 pub const ROOM: u8 = 17;
 
 /// Why a file is turned away: the paper's number and the block shown with it.

@@ -1,7 +1,7 @@
-//! The images of headers that the writer is tried on, each made from a seed and its number with the
-//! answer that the reference expects, and the refusals that they can lead to.
+//! The images that the readers and the writer are tried on, each made from a seed and its number with
+//! the answers that the reference expects, and the refusals that they can lead to.
 
-use crate::accept::{Refusal, FIELD, LENGTH, NAME, ORDER, PACKED, ROOM};
+use crate::accept::{accept, Facts, Refusal, FIELD, LENGTH, NAME, ORDER, PACKED, ROOM};
 use crate::damage;
 use crate::make::{Recipe, Sample, GREATEST_A, GREATEST_B, GREATEST_C};
 use crate::mix::{large_case, setting, small_case};
@@ -11,18 +11,26 @@ use crate::values::Values;
 
 pub const LONGEST_IMAGE: usize = 65_536;
 pub const GREATEST_ROOM: usize = 400_000;
+/// The places of a slice that is lent for entries.
+pub const MOST_ENTRIES: usize = 65_536;
 
 pub struct Images {
     pub seed: u64,
     pub cases: u64,
 }
 
-/// What is asked, and the reference's answer.
+/// What is asked, and the reference's answers.
 pub struct Asked {
     pub kind: &'static str,
     pub image: Vec<u8>,
+    /// The output's bytes.
     pub room: usize,
-    pub expected: Result<Vec<u8>, Refusal>,
+    /// The places of each slice that is lent for entries.
+    pub entries: usize,
+    /// The image judged as a whole file.
+    pub file: Result<Facts, Refusal>,
+    /// What the writer makes of the image's values.
+    pub written: Result<Vec<u8>, Refusal>,
 }
 
 impl Images {
@@ -44,73 +52,93 @@ impl Images {
             Ok(header) => room_for(header.len(), &mut random),
             Err(_) => room_to_waste(values.header_length() as usize, &mut random),
         };
+        let counts = [
+            values.shifted_lines.len(),
+            values.timed_lines.len(),
+            values.error_lines.len(),
+        ];
         Asked {
             kind,
-            image,
             room,
+            entries: room_for_entries(counts, &mut random),
+            file: accept(&image),
             // A room that is too small is all that can change the answer.
-            expected: match widest {
+            written: match widest {
                 Ok(header) if room < header.len() => Err(Refusal {
                     number: ROOM,
                     block: 0,
                 }),
                 answer => answer,
             },
+            image,
         }
     }
 }
 
 fn any_image(random: &mut Random) -> (&'static str, Vec<u8>) {
-    let kind = random.below(1_000);
-    if kind < 350 {
-        let case = small_case(random);
-        return (case.kind, case.bytes);
+    match random.below(1_000) {
+        0..=249 => {
+            let case = small_case(random);
+            (case.kind, case.bytes)
+        }
+        250..=251 => {
+            let case = large_case(random);
+            (case.kind, case.bytes)
+        }
+        252..=256 => ("long noise", long_noise(random)),
+        257 => ("many entries, the last ones past the end", too_long(random)),
+        258..=519 => whole_file(random),
+        _ => damaged(random),
     }
-    if kind < 352 {
-        let case = large_case(random);
-        return (case.kind, case.bytes);
-    }
-    if kind < 357 {
-        return ("long noise", long_noise(random));
-    }
+}
+
+/// A good file that fits into an image; most have few entries.
+fn whole_file(random: &mut Random) -> (&'static str, Vec<u8>) {
     let mut recipe = Recipe::small(random);
-    match kind {
-        357 => {
-            // As many as can be with the count of block 10 still within the image.
-            recipe.a = random.below(6_437);
-            recipe.b = random.within(0, 6_436 - recipe.a);
-            recipe.c = random.pick(&[4_000, 20_000, GREATEST_C]);
-        }
-        358..=366 => {
-            recipe.a = random.below(600);
-            recipe.b = random.below(600);
-            recipe.c = random.below(1_500);
-        }
-        _ => {}
-    }
-    let mut sample = Sample::make(&recipe, random);
-    let kind = match kind {
-        357 => "many entries, the last ones past the end",
-        358..=366 => "some hundred entries",
-        367..=416 => {
+    let (kind, a, b, c) = match random.below(100) {
+        0..=19 => ("whole file, no entries", 1, 1, 1),
+        20..=22 => ("whole file, some hundred entries", 600, 600, 1_500),
+        23 => ("whole file, some thousand entries", 3_000, 3_000, 1_000),
+        _ => ("whole file, a few entries", 5, 5, 5),
+    };
+    recipe.a = random.below(a);
+    recipe.b = random.below(b);
+    recipe.c = random.below(c);
+    (kind, Sample::make(&recipe, random).bytes)
+}
+
+/// As many entries as can be with the count of block 10 still within the image.
+fn too_long(random: &mut Random) -> Vec<u8> {
+    let mut recipe = Recipe::small(random);
+    recipe.a = random.below(6_437);
+    recipe.b = random.within(0, 6_436 - recipe.a);
+    recipe.c = random.pick(&[4_000, 20_000, GREATEST_C]);
+    Sample::make(&recipe, random).bytes
+}
+
+/// A small file whose derived values are spoiled, or that is given other values.
+fn damaged(random: &mut Random) -> (&'static str, Vec<u8>) {
+    let mut sample = Sample::make(&Recipe::small(random), random);
+    let kind = match random.below(400) {
+        0..=49 => {
             damage::derived(&mut sample, random);
             "derived values spoiled"
         }
-        417..=436 => {
+        50..=69 => {
             too_many(&mut sample, random);
             "about too many entries"
         }
-        437..=446 => {
+        70..=79 => {
             too_many(&mut sample, random);
             damage::given(&mut sample, random);
             "about too many entries, and damaged"
         }
-        447..=456 => {
+        80..=89 => {
             damage::derived(&mut sample, random);
             damage::cut(&mut sample, random);
             "derived values spoiled, then cut"
         }
-        457..=726 => {
+        90..=244 => {
             damage::given(&mut sample, random);
             "one given value changed"
         }
@@ -177,8 +205,24 @@ fn room_to_waste(length: usize, random: &mut Random) -> usize {
     }
 }
 
-/// Every refusal that an image can lead to, with the blocks that it can name. Too many entries in
-/// block 10 is not one of them: their count has two bytes.
+/// Mostly enough for the entries of all blocks, and close to their number in one of them.
+fn room_for_entries(counts: [usize; 3], random: &mut Random) -> usize {
+    let most = counts.into_iter().max().unwrap_or(0);
+    let any = random.below(MOST_ENTRIES as u64) as usize;
+    let one = random.pick(&counts);
+    match random.below(20) {
+        0..=7 => most,
+        8..=11 => most + 1,
+        12 => MOST_ENTRIES,
+        13 => any,
+        14..=15 => one,
+        16 => one + 1,
+        _ => one.saturating_sub(1),
+    }
+}
+
+/// Every refusal of the writer that an image can lead to, with the blocks that it can name. Too many
+/// entries in block 10 is not one of them: their count has two bytes.
 pub const REFUSALS: [Row; 6] = [
     (ORDER, "ORDER", &[1]),
     (LENGTH, "LENGTH", &[8, 9]),

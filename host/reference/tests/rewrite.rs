@@ -1,62 +1,43 @@
-//! Compares the proved library's writer with the reference's: the values are read from an image and
-//! written again. Prints how many of each kind and of each answer there were; any difference or thin
-//! spot fails.
+//! Compares the proved library's four readers and its writer with the reference: each image is read
+//! as a file, and what was read, or what a refused image states, is written. Prints how many of each
+//! kind and of each answer there were; any difference or thin spot fails.
 
 use std::io::{self, BufReader, Read, Write};
 use std::process::{Child, ChildStdin, ChildStdout, Command, Stdio};
-use std::sync::mpsc::sync_channel;
+use std::sync::mpsc::{sync_channel, Receiver, SyncSender};
 use std::sync::Arc;
 use std::thread;
 use std::time::Instant;
 
 use reference::images::{Asked, Images, REFUSALS};
+use reference::readers::{verdicts, Readings};
 use reference::tally::Tally;
 use reference::Refusal;
 
 /// With this the program fills its output before it writes.
 const UNTOUCHED: u8 = 0xaa;
 
+/// Who answers first, with a refusal's number and block each; the output follows.
+const WHO: [&str; 5] = ["read", "read_shifts", "read_times", "read_errors", "write"];
+
 fn main() {
     let images = Arc::new(Images::new(120_000));
     println!("seed {}", images.seed);
     let began = Instant::now();
-    let (mut child, mut requests, mut answers) = start();
+    let (mut child, requests, mut answers) = start();
 
     // one thread makes the images, judges them by the reference and asks; this one compares
     let (tell, told) = sync_channel(4_000);
     let asking = Arc::clone(&images);
-    let asker = thread::spawn(move || {
-        for number in 0..asking.cases {
-            let asked = asking.case(number);
-            ask(&mut requests, &asked).expect("the program reads");
-            tell.send((asked.kind, asked.room, asked.expected))
-                .expect("it is compared");
-        }
-    });
-
-    let mut tally = Tally::new("written", &REFUSALS);
-    for (number, (kind, room, expected)) in told.iter().enumerate() {
-        let due = answer_due(room, &expected);
-        let mut given = vec![0; 2 + room];
-        let read = answers.read_exact(&mut given);
-        if read.is_err() || given != due {
-            println!("seed {}, case {number}, {kind}", images.seed);
-            println!("image: {} bytes", images.case(number as u64).image.len());
-            println!("room: {room}");
-            match read {
-                Ok(()) => print_difference(&due, &given),
-                Err(error) => println!("no answer: {error}"),
-            }
-            std::process::exit(1);
-        }
-        tally.count(kind, &expected);
-    }
+    let asker = thread::spawn(move || ask_all(&asking, requests, &tell));
+    let (tally, readings) = compare_all(images.seed, &mut answers, &told);
     asker.join().expect("every image was asked");
     let mut more = Vec::new();
     answers.read_to_end(&mut more).expect("the program ends");
     assert!(more.is_empty(), "{} bytes too many", more.len());
     assert!(child.wait().is_ok_and(|status| status.success()));
     tally.print();
+    readings.print();
     println!(
         "{} images compared in {:.1} s",
         images.cases,
@@ -64,9 +45,10 @@ fn main() {
     );
     let least = images.cases / 600;
     tally.check(images.cases / 12, least, least);
+    readings.check(images.cases);
 }
 
-/// Starts the program that writes what it read.
+/// Starts the program that reads, and writes what it read.
 fn start() -> (Child, ChildStdin, BufReader<ChildStdout>) {
     let root = concat!(env!("CARGO_MANIFEST_DIR"), "/../..");
     let mut child = Command::new(format!("{root}/host/run"))
@@ -80,39 +62,86 @@ fn start() -> (Child, ChildStdin, BufReader<ChildStdout>) {
     (child, requests, BufReader::with_capacity(1 << 20, answers))
 }
 
+fn ask_all(images: &Images, mut requests: ChildStdin, tell: &SyncSender<Asked>) {
+    for number in 0..images.cases {
+        let asked = images.case(number);
+        ask(&mut requests, &asked).expect("the program reads");
+        tell.send(asked).expect("it is compared");
+    }
+}
+
 /// One write for each request: none may stay behind while its answer is waited for.
 fn ask(requests: &mut ChildStdin, asked: &Asked) -> io::Result<()> {
-    let mut request = Vec::with_capacity(8 + asked.image.len());
-    request.extend((asked.image.len() as u32).to_le_bytes());
-    request.extend((asked.room as u32).to_le_bytes());
+    let mut request = Vec::with_capacity(12 + asked.image.len());
+    for number in [asked.image.len(), asked.room, asked.entries] {
+        request.extend((number as u32).to_le_bytes());
+    }
     request.extend_from_slice(&asked.image);
     requests.write_all(&request)
 }
 
-/// Refusal, block and the whole output: the header and what is behind it, or nothing touched.
-fn answer_due(room: usize, expected: &Result<Vec<u8>, Refusal>) -> Vec<u8> {
-    let mut due = vec![UNTOUCHED; 2 + room];
-    match expected {
-        Ok(header) => {
-            due[..2].fill(0);
-            due[2..2 + header.len()].copy_from_slice(header);
+fn compare_all(seed: u64, answers: &mut impl Read, told: &Receiver<Asked>) -> (Tally, Readings) {
+    let mut tally = Tally::new("written", &REFUSALS);
+    let mut readings = Readings::new();
+    for (number, asked) in told.iter().enumerate() {
+        if let Err(difference) = compare(answers, &asked) {
+            println!("seed {seed}, case {number}, {}", asked.kind);
+            println!("image: {} bytes", asked.image.len());
+            println!("room: {}, for entries: {}", asked.room, asked.entries);
+            println!("{difference}");
+            std::process::exit(1);
         }
-        Err(refusal) => due[..2].copy_from_slice(&[refusal.number, refusal.block]),
+        tally.count(asked.kind, &asked.written);
+        readings.count(&asked.file, asked.entries, asked.written.is_ok());
     }
+    (tally, readings)
+}
+
+fn compare(answers: &mut impl Read, asked: &Asked) -> Result<(), String> {
+    let due = answer_due(asked);
+    let mut given = vec![0; due.len()];
+    answers
+        .read_exact(&mut given)
+        .map_err(|error| format!("no answer: {error}"))?;
+    if given == due {
+        Ok(())
+    } else {
+        Err(difference(&due, &given))
+    }
+}
+
+/// What each says, and the whole output: the header and what is behind it, or nothing touched.
+fn answer_due(asked: &Asked) -> Vec<u8> {
+    let mut due = Vec::with_capacity(2 * WHO.len() + asked.room);
+    for verdict in verdicts(&asked.file, asked.entries) {
+        due.extend(number_and_block(&verdict));
+    }
+    due.extend(number_and_block(&asked.written));
+    due.extend_from_slice(asked.written.as_deref().unwrap_or(&[]));
+    due.resize(2 * WHO.len() + asked.room, UNTOUCHED);
     due
 }
 
-fn print_difference(due: &[u8], given: &[u8]) {
-    println!("reference: refusal {}, block {}", due[0], due[1]);
-    println!("proved:    refusal {}, block {}", given[0], given[1]);
-    let (due, given) = (&due[2..], &given[2..]);
-    match (0..due.len()).find(|&at| due[at] != given[at]) {
-        Some(at) => {
-            let end = due.len().min(at + 16);
-            println!("the output differs from byte {at} on");
-            println!("reference: {:02x?}", &due[at..end]);
-            println!("proved:    {:02x?}", &given[at..end]);
-        }
-        None => println!("the output is the same"),
+fn number_and_block<T>(answer: &Result<T, Refusal>) -> [u8; 2] {
+    match answer {
+        Ok(_) => [0, 0],
+        Err(refusal) => [refusal.number, refusal.block],
     }
+}
+
+fn difference(due: &[u8], given: &[u8]) -> String {
+    for (at, who) in WHO.iter().enumerate() {
+        let (due, given) = (&due[2 * at..][..2], &given[2 * at..][..2]);
+        if due != given {
+            return format!("{who}, refusal and block: reference {due:?}, proved {given:?}");
+        }
+    }
+    let (due, given) = (&due[2 * WHO.len()..], &given[2 * WHO.len()..]);
+    let at = (0..due.len()).find(|&at| due[at] != given[at]).unwrap_or(0);
+    let end = due.len().min(at + 16);
+    format!(
+        "the output differs from byte {at} on\nreference: {:02x?}\nproved:    {:02x?}",
+        &due[at..end],
+        &given[at..end]
+    )
 }

@@ -1,10 +1,11 @@
-//! The header's writer: what it reads from an image, what it writes, and what it refuses.
+//! The header's readers and writer: what is read from an image, what is written, and what is refused.
 
 use reference::accept::{accept, FIELD, LENGTH, NAME, ORDER, PACKED, ROOM};
 use reference::damage;
 use reference::images::{Images, REFUSALS};
 use reference::make::{Recipe, Sample, GREATEST_A, GREATEST_B, GREATEST_C};
 use reference::random::Random;
+use reference::readers::{verdicts, Readings};
 use reference::tally::Tally;
 use reference::Values;
 
@@ -397,17 +398,56 @@ fn of_two_faults_the_earlier_answers() {
 }
 
 #[test]
+fn the_readers_of_entries_ask_for_room() {
+    let read = |file: &[u8], room: usize| {
+        verdicts(&accept(file), room).map(|verdict| match verdict {
+            Ok(()) => (0, 0),
+            Err(refusal) => (refusal.number, refusal.block),
+        })
+    };
+    for order in [0, 1] {
+        let mut file = make(&Recipe {
+            order,
+            a: 2,
+            b: 4,
+            c: 3,
+            ..Recipe::plain()
+        })
+        .bytes;
+        for room in [4, 5, 65_536] {
+            assert_eq!(read(&file, room), [(0, 0); 4]);
+        }
+        assert_eq!(read(&file, 3), [(0, 0), (0, 0), (17, 0), (0, 0)]);
+        assert_eq!(read(&file, 2), [(0, 0), (0, 0), (17, 0), (17, 0)]);
+        assert_eq!(read(&file, 1), [(0, 0), (17, 0), (17, 0), (17, 0)]);
+        assert_eq!(read(&file, 0), [(0, 0), (17, 0), (17, 0), (17, 0)]);
+        // The file's own refusal comes first.
+        file.pop();
+        for room in [0, 2, 65_536] {
+            assert_eq!(read(&file, room), [(11, 12); 4]);
+        }
+    }
+    let none = make(&Recipe::plain()).bytes;
+    assert_eq!(read(&none, 0), [(0, 0); 4]);
+    assert_eq!(read(&[], 0), [(1, 1); 4]);
+}
+
+#[test]
 fn the_images_reach_every_answer() {
     let images = Images::new(12_000);
     let mut tally = Tally::new("written", &REFUSALS);
+    let mut readings = Readings::new();
     for number in 0..images.cases {
         let asked = images.case(number);
-        assert!(asked.image.len() <= 65_536 && asked.room <= 400_000);
+        assert!(asked.image.len() <= 65_536 && asked.room <= 400_000 && asked.entries <= 65_536);
         let again = Values::of_image(&asked.image).write(asked.room);
-        assert!(again == asked.expected);
+        assert!(again == asked.written);
         tally.count(asked.kind, &again);
+        readings.count(&asked.file, asked.entries, again.is_ok());
     }
     tally.print();
+    readings.print();
     let least = images.cases / 600;
     tally.check(images.cases / 12, least, least);
+    readings.check(images.cases);
 }
