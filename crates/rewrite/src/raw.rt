@@ -17,7 +17,7 @@ pub(crate) fn read8(
 
 pub(crate) fn read9(s: &[u8], lines: &mut [u16; 65536], times: &mut [u64; 65536]) {
     let order = wire::byte_at(s, 5);
-    let at = 1117 + 10 * (header::a_of(s) as usize);
+    let at = header::place9(header::a_of(s)) + 5;
     for i in 0..header::b_of(s) as usize {
         lines[i] = wire::u16_at(s, at + 10 * i, order);
         times[i] = wire::u64_at(s, at + 2 + 10 * i, order);
@@ -26,7 +26,7 @@ pub(crate) fn read9(s: &[u8], lines: &mut [u16; 65536], times: &mut [u64; 65536]
 
 pub(crate) fn read10(s: &[u8], lines: &mut [u16; 65536], pixels: &mut [u16; 65536]) {
     let order = wire::byte_at(s, 5);
-    let at = 1164 + 10 * (header::a_of(s) as usize) + 10 * (header::b_of(s) as usize);
+    let at = header::place10(header::a_of(s), header::b_of(s)) + 7;
     for i in 0..header::c_of(s) as usize {
         lines[i] = wire::u16_at(s, at + 4 * i, order);
         pixels[i] = wire::u16_at(s, at + 2 + 4 * i, order);
