@@ -15,19 +15,15 @@ int list(int count, char **words);
 int frame(int count, char **words);
 int reading(int count, char **words);
 
-/* A file's bytes, mapped or read; bytes is never NULL. */
+/* A file's bytes, in memory of the command's own; bytes is never NULL. */
 typedef struct File {
-    const uint8_t *bytes;
+    uint8_t *bytes;
     size_t length;
-    bool mapped;
-    int from; /* of a mapped file: open until it is closed */
 } File;
 
+/* Reads all of a file, and complains of one that cannot be read, or that changes meanwhile. */
 bool open_file(const char *name, File *file);
 void close_file(File *file);
-
-/* Ends the command where a mapped file is shorter than it was: to be called before anything is said of its bytes. */
-void expect_whole(const File *file);
 
 /* The most columns that a good slate has. */
 enum { WIDEST = 22000 };

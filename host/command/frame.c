@@ -71,12 +71,11 @@ static bool offer_file(Frame *frame, const char *name)
     HsdAnswer answer =
         hsd_offer(frame->slate, frame->marks, HSD_MARKS, frame->counts, frame->length, file.bytes, file.length);
     unsigned number = hsd_accept(file.bytes, file.length).number;
-    expect_whole(&file);
+    close_file(&file);
     if (answer.refusal)
         say("%s: refused %u %s, block %u\n", name, answer.refusal, refusal_name(answer.refusal), answer.block);
     else
         say("%s: placed %u of %u\n", name, number, frame->slate.total);
-    close_file(&file);
     return true;
 }
 

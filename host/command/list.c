@@ -28,7 +28,6 @@ int list(int count, char **words)
             continue;
         }
         HsdFile found = hsd_accept(file.bytes, file.length);
-        expect_whole(&file);
         say_line(found);
         if (found.refusal && status == GOOD)
             status = REFUSED;

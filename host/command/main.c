@@ -13,7 +13,8 @@ static const char overview[] =
     "panulimbe reading FILE LINE COLUMN                    what one count reads as\n"
     "\n"
     "'panulimbe SUBCOMMAND --help' says more. Exit status: 0 all is well; 1 something was refused or is\n"
-    "missing; 2 wrong usage, or a file that cannot be read; 3 an output that cannot be written.\n";
+    "missing; 2 wrong usage, or a file that cannot be read or changed meanwhile; 3 an output that cannot be\n"
+    "written.\n";
 
 static const char list_help[] =
     "panulimbe list FILE..\n"
@@ -22,10 +23,11 @@ static const char list_help[] =
     "  OK 8 57210 0200 13 FLDK 4 2 1 2 1   a good file: satellite, day, timeline, band, area, columns,\n"
     "                                      lines, segment number, segment total, first line\n"
     "  NO 1 1                              a refused one: the refusal's number and its block\n"
-    "  (an empty line)                     a file that cannot be read; standard error says why\n"
+    "  (an empty line)                     a file that cannot be read, or changed while it was read;\n"
+    "                                      standard error says which and why\n"
     "\n"
-    "Exit status: 0 all are good; 1 some file was refused; 2 some file cannot be read; 3 standard output\n"
-    "cannot be written.\n";
+    "Exit status: 0 all are good; 1 some file was refused; 2 wrong usage, or some file cannot be read or\n"
+    "changed meanwhile; 3 standard output cannot be written.\n";
 
 static const char frame_help[] =
     "panulimbe frame --slate SLATE -o PICTURE [--leader COUNT] [--progress] FILE..\n"
@@ -41,7 +43,8 @@ static const char frame_help[] =
     "  --progress         show on standard error how far it is\n"
     "\n"
     "Exit status: 0 all segments are in, whatever else was offered and refused; 1 some are missing; 2 wrong\n"
-    "usage, a bad slate, or a file that cannot be read; 3 standard output or the picture cannot be written.\n";
+    "usage, a bad slate, or a file that cannot be read or changed meanwhile; 3 standard output or the\n"
+    "picture cannot be written.\n";
 
 static const char reading_help[] =
     "panulimbe reading FILE LINE COLUMN\n"
@@ -50,22 +53,12 @@ static const char reading_help[] =
     "'radiance 4.25', 'error pixel', 'outside', 'over range' or 'uncalibrated'; or why the file is refused.\n"
     "\n"
     "Exit status: 0 the count was read; 1 the file is refused; 2 wrong usage, no such line or column, or a\n"
-    "file that cannot be read; 3 standard output cannot be written.\n";
+    "file that cannot be read or changed meanwhile; 3 standard output cannot be written.\n";
 
 static const struct {
     const char *name, *help;
     int (*run)(int count, char **words);
 } subcommands[] = {{"list", list_help, list}, {"frame", frame_help, frame}, {"reading", reading_help, reading}};
-
-/* Of a mapped file that became shorter, the bytes that are gone cannot be had: nothing of it can be told. */
-static void shrank(int number)
-{
-    static const char text[] = "panulimbe: a file became shorter while it was read\n";
-    (void)number;
-    if (write(STDERR_FILENO, text, sizeof text - 1) < 0)
-        _exit(UNWRITTEN);
-    _exit(UNUSABLE);
-}
 
 /* A standard file that is closed is held, unwritable, so that no other file takes its number. */
 static void hold_standard_files(void)
@@ -81,7 +74,6 @@ int main(int count, char **words)
     /* a closed pipe and a file that may grow no further are errors of the write, and are told as such */
     signal(SIGPIPE, SIG_IGN);
     signal(SIGXFSZ, SIG_IGN);
-    signal(SIGBUS, shrank);
     if (count >= 2 && strcmp(words[1], "--help") == 0) {
         say("%s", overview);
         return GOOD;

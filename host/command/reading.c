@@ -38,7 +38,6 @@ static int read_one(const File *file, char **words)
 {
     HsdFile says = hsd_accept(file->bytes, file->length);
     unsigned line, column;
-    expect_whole(file);
     if (says.refusal) {
         say("refused %u %s, block %u\n", says.refusal, refusal_name(says.refusal), says.block);
         return REFUSED;
@@ -52,7 +51,6 @@ static int read_one(const File *file, char **words)
         return UNUSABLE;
     }
     uint16_t count = count_at(says, file->bytes, line, column);
-    expect_whole(file);
     say_reading(hsd_read_count(says.gain, says.constant, says.valid_bits, count));
     return GOOD;
 }
