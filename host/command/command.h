@@ -3,6 +3,7 @@
 #ifndef COMMAND_H
 #define COMMAND_H
 
+#include <getopt.h>
 #include <stdbool.h>
 
 #include "hsd.h"
@@ -47,6 +48,14 @@ const char *refusal_name(uint8_t refusal);
 void complain(const char *about, const char *what);
 int misused(const char *subcommand, const char *needs);
 void show_progress(const char *what, unsigned done, unsigned all);
+
+/* A word of the user's as it may be printed: good until the next call. */
+const char *shown(const char *word);
+
+/* The next option's letter or number, or -1; complains of a wrong one. Long options are numbered from LONG_ONLY, above every letter. */
+enum { LONG_ONLY = 256 };
+int next_option(int count, char **words, const char *letters, const struct option *options);
+bool has_options(int count, char **words);
 
 /* A plain decimal number from least to most, and nothing after it. */
 bool parse_number(const char *text, unsigned long least, unsigned long most, unsigned *value);
