@@ -5,6 +5,7 @@
 
 #include <getopt.h>
 #include <stdbool.h>
+#include <sys/stat.h>
 
 #include "hsd.h"
 
@@ -25,6 +26,12 @@ typedef struct File {
 /* Reads all of a file, and complains of one that cannot be read, or that changes meanwhile. */
 bool open_file(const char *name, File *file);
 void close_file(File *file);
+
+/* Whether nothing that is read is written to as well, by the output (NULL for none) or by what the command says; else complains. */
+bool spares_inputs(const char *output, int count, char **names);
+
+/* Of two files whose type and inode were asked for. */
+bool same_file(const struct statx *one, const struct statx *other);
 
 /* The most columns that a good slate has. */
 enum { WIDEST = 22000 };

@@ -130,6 +130,8 @@ int frame(int count, char **words)
     unsigned leader_count = 0;
     if (!parse_wish(count, words, &wish))
         return misused("frame", "a slate, an output and at least one file");
+    if (!spares_inputs(wish.out, count - optind, words + optind))
+        return UNUSABLE;
     if (wish.leader && !parse_number(wish.leader, 0, 65535, &leader_count)) {
         complain(wish.leader, "not a count of 0 to 65535");
         return UNUSABLE;

@@ -30,6 +30,8 @@ int list(int count, char **words)
     int worst = GOOD;
     if (has_options(count, words) || optind == count)
         return misused("list", "at least one file");
+    if (!spares_inputs(NULL, count - optind, words + optind))
+        return UNUSABLE;
     for (int i = optind; i < count; i++) {
         int status = list_file(words[i]);
         worst = status > worst ? status : worst;

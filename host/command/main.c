@@ -43,8 +43,8 @@ static const char frame_help[] =
     "  --progress         show on standard error how far it is\n"
     "\n"
     "Exit status: 0 all segments are in, whatever else was offered and refused; 1 some are missing; 2 wrong\n"
-    "usage, a bad slate, or a file that cannot be read or changed meanwhile; 3 standard output or the\n"
-    "picture cannot be written.\n";
+    "usage, a bad slate, a picture that is one of the files, or a file that cannot be read or changed\n"
+    "meanwhile; 3 standard output or the picture cannot be written.\n";
 
 static const char reading_help[] =
     "panulimbe reading FILE LINE COLUMN\n"

@@ -62,6 +62,8 @@ int reading(int count, char **words)
     File file;
     if (has_options(count, words) || count - optind != 3)
         return misused("reading", "a file, a line and a column");
+    if (!spares_inputs(NULL, 1, words + optind))
+        return UNUSABLE;
     if (!open_file(words[optind], &file))
         return UNUSABLE;
     int status = read_one(&file, words + optind);
