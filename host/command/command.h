@@ -44,8 +44,15 @@ typedef struct Frame {
     size_t length;
 } Frame;
 
+/* How a frame is shown. */
+typedef struct Picture {
+    const Frame *frame;
+    const uint16_t *leader;
+    bool progress;
+} Picture;
+
 bool parse_slate(const char *text, HsdSlate *slate);
-bool write_picture(const char *name, const Frame *frame, const uint16_t *leader, bool progress);
+bool write_picture(const char *name, Picture picture);
 
 /* Standard output, at once; one that cannot be written to ends the command. */
 void say(const char *format, ...) __attribute__((format(printf, 1, 2)));
