@@ -61,11 +61,11 @@ static const struct {
     int (*run)(int count, char **words);
 } subcommands[] = {{"list", list_help, list}, {"frame", frame_help, frame}, {"reading", reading_help, reading}};
 
-/* A standard file that is closed is held, unwritable, so that no other file takes its number. */
+/* A standard file that is closed is held by what can be neither read nor written, so that no other file takes its number. */
 static void hold_standard_files(void)
 {
     for (int file = 0; file <= 2; file++)
-        if (fcntl(file, F_GETFD) < 0 && open("/dev/null", O_RDONLY) != file)
+        if (fcntl(file, F_GETFD) < 0 && open("/", O_RDONLY) != file)
             _exit(UNWRITTEN);
 }
 
