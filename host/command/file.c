@@ -86,4 +86,5 @@ bool open_file(const char *name, File *file)
 void close_file(File *file)
 {
     free(file->bytes);
+    file->bytes = NULL;
 }

@@ -1,8 +1,9 @@
 /* Tries files that change while they are read: `changes FILE`, a file to write. The `read` that file.c calls is this test's own: it gives
-   few bytes at a time, can fail, and meddles with the file between two reads. */
+   few bytes at a time, can fail, and meddles with the file between two reads. Its `statx` can keep things from it. */
 #include <errno.h>
 #include <fcntl.h>
 #include <string.h>
+#include <sys/stat.h>
 #include <sys/wait.h>
 #include <time.h>
 #include <unistd.h>
@@ -10,16 +11,20 @@
 #include "test.h"
 
 static ssize_t own_read(int from, void *to, size_t room);
+static int own_statx(int from, const char *name, int flags, unsigned asked, struct statx *about);
 #define read own_read
+#define statx(...) own_statx(__VA_ARGS__)
 #include "../command/file.c"
 #undef read
+#undef statx
 
 enum { LENGTH = 100000, LONG = 300000, PIECE = 30000, NOWHERE = LONG };
 
 static const char *path;
 static unsigned turn, meddling_turn;
 static void (*meddle)(void);
-static int failure; /* of the third read */
+static int failure;       /* of the third read */
+static unsigned withheld; /* by statx: told as if it never changed */
 static char complaint[256];
 
 static ssize_t own_read(int from, void *to, size_t room)
@@ -32,6 +37,18 @@ static ssize_t own_read(int from, void *to, size_t room)
         return -1;
     }
     return read(from, to, room < PIECE ? room : PIECE);
+}
+
+static int own_statx(int from, const char *name, int flags, unsigned asked, struct statx *about)
+{
+    int status = statx(from, name, flags, asked, about);
+    if (withheld & STATX_SIZE)
+        about->stx_size = LENGTH;
+    if (withheld & STATX_MTIME)
+        about->stx_mtime = (struct statx_timestamp){0};
+    if (withheld & STATX_CTIME)
+        about->stx_ctime = (struct statx_timestamp){0};
+    return status;
 }
 
 void complain(const char *about, const char *what)
@@ -176,6 +193,24 @@ static void check_changes(void)
         }
 }
 
+/* Each thing that is compared tells a change by itself. */
+static void check_alone(void)
+{
+    rewrite(NOWHERE);
+    withheld = STATX_MTIME | STATX_CTIME;
+    check_change(grow, 2);
+    rewrite(NOWHERE);
+    withheld = STATX_SIZE | STATX_CTIME;
+    check_change(change_end, 2);
+    rewrite(NOWHERE);
+    withheld = STATX_SIZE | STATX_MTIME;
+    check_change(change_secretly, 2);
+    rewrite(NOWHERE);
+    withheld = STATX_SIZE | STATX_MTIME | STATX_CTIME;
+    check_change(shrink, 2);
+    withheld = 0;
+}
+
 static void check_empty(void)
 {
     File file;
@@ -210,6 +245,7 @@ int main(int count, char **words)
     path = words[1];
     check_quiet();
     check_changes();
+    check_alone();
     check_empty();
     check_pipe();
     return checked("changes");
