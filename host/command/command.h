@@ -3,7 +3,9 @@
 #ifndef COMMAND_H
 #define COMMAND_H
 
+#include <getopt.h>
 #include <stdbool.h>
+#include <sys/stat.h>
 
 #include "hsd.h"
 
@@ -15,19 +17,21 @@ int list(int count, char **words);
 int frame(int count, char **words);
 int reading(int count, char **words);
 
-/* A file's bytes, mapped or read; bytes is never NULL. */
+/* A file's bytes, in memory of the command's own; bytes is never NULL. */
 typedef struct File {
-    const uint8_t *bytes;
+    uint8_t *bytes;
     size_t length;
-    bool mapped;
-    int from; /* of a mapped file: open until it is closed */
 } File;
 
+/* Reads all of a file, and complains of one that cannot be read, or that changes meanwhile. */
 bool open_file(const char *name, File *file);
 void close_file(File *file);
 
-/* Ends the command where a mapped file is shorter than it was: to be called before anything is said of its bytes. */
-void expect_whole(const File *file);
+/* Whether nothing that is read is written to as well, by the output (NULL for none) or by what the command says; else complains. */
+bool spares_inputs(const char *output, int count, char **names);
+
+/* Of two files whose type and inode were asked for. */
+bool same_file(const struct statx *one, const struct statx *other);
 
 /* The most columns that a good slate has. */
 enum { WIDEST = 22000 };
@@ -40,8 +44,15 @@ typedef struct Frame {
     size_t length;
 } Frame;
 
+/* How a frame is shown. */
+typedef struct Picture {
+    const Frame *frame;
+    const uint16_t *leader;
+    bool progress;
+} Picture;
+
 bool parse_slate(const char *text, HsdSlate *slate);
-bool write_picture(const char *name, const Frame *frame, const uint16_t *leader, bool progress);
+bool write_picture(const char *name, Picture picture);
 
 /* Standard output, at once; one that cannot be written to ends the command. */
 void say(const char *format, ...) __attribute__((format(printf, 1, 2)));
@@ -51,6 +62,14 @@ const char *refusal_name(uint8_t refusal);
 void complain(const char *about, const char *what);
 int misused(const char *subcommand, const char *needs);
 void show_progress(const char *what, unsigned done, unsigned all);
+
+/* A word of the user's as it may be printed: good until the next call. */
+const char *shown(const char *word);
+
+/* The next option's letter or number, or -1; complains of a wrong one. Long options are numbered from LONG_ONLY, above every letter. */
+enum { LONG_ONLY = 256 };
+int next_option(int count, char **words, const char *letters, const struct option *options);
+bool has_options(int count, char **words);
 
 /* A plain decimal number from least to most, and nothing after it. */
 bool parse_number(const char *text, unsigned long least, unsigned long most, unsigned *value);

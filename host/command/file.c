@@ -1,10 +1,9 @@
-/* A file's bytes: mapped where that can be done, so that a frame's files are never copied twice, and else read. */
+/* A file's bytes, read into memory of the command's own: what the library is lent must not change while it looks at it, and
+   a mapped file changes with whoever writes to it. */
 #include <errno.h>
 #include <fcntl.h>
-#include <signal.h>
 #include <stdlib.h>
 #include <string.h>
-#include <sys/mman.h>
 #include <unistd.h>
 
 #include "command.h"
@@ -13,71 +12,79 @@
    cannot change the answer, so a device without an end has one too. */
 enum { ENOUGH = 394563 + 968000000 + 1 };
 
-static const uint8_t no_bytes[1];
+/* The room for a file that does not tell its length; it doubles as bytes come. */
+enum { FIRST_ROOM = 65536 };
 
-/* A mapped file that shrinks meanwhile raises SIGBUS, which ends the command (main.c). Within its last page it reads as zeros instead:
-   expect_whole finds that. */
-static bool map_file(int from, File *file)
+/* Reads on to the end, or until so many bytes are there. */
+static bool read_bytes(int from, size_t room, size_t most, File *file)
 {
-    off_t length = lseek(from, 0, SEEK_END);
-    if (length <= 0)
-        return false;
-    void *bytes = mmap(NULL, (size_t)length, PROT_READ, MAP_PRIVATE, from, 0);
-    if (bytes == MAP_FAILED)
-        return false;
-    *file = (File){.bytes = bytes, .length = (size_t)length, .mapped = true, .from = from};
-    return true;
+    file->length = 0;
+    file->bytes = malloc(room);
+    while (file->bytes && file->length < most) {
+        if (file->length == room) {
+            room = 2 * room < most ? 2 * room : most;
+            uint8_t *more = realloc(file->bytes, room);
+            if (!more)
+                return false;
+            file->bytes = more;
+        }
+        ssize_t got = read(from, file->bytes + file->length, room - file->length);
+        if (got == 0)
+            return true;
+        if (got < 0 && errno != EINTR)
+            return false;
+        file->length += got > 0 ? (size_t)got : 0;
+    }
+    return file->bytes;
 }
 
-/* For pipes and devices, and for files that do not tell their length: an empty one, or one below /proc. */
-static bool read_file(int from, File *file)
+static bool look(int from, struct statx *about)
 {
-    uint8_t *bytes = NULL;
-    size_t length = 0, room = 0;
-    ssize_t got = 1;
-    lseek(from, 0, SEEK_SET);
-    while (got > 0 && length < ENOUGH) {
-        if (length == room) {
-            room = room ? 2 * room : 65536;
-            uint8_t *more = realloc(bytes, room);
-            if (!more)
-                break;
-            bytes = more;
-        }
-        got = read(from, bytes + length, room - length);
-        length += got > 0 ? (size_t)got : 0;
-    }
-    if (got != 0 && length < ENOUGH) {
-        free(bytes);
-        return false;
-    }
-    *file = (File){.bytes = bytes ? bytes : no_bytes, .length = length, .mapped = false};
-    return true;
+    return statx(from, "", AT_EMPTY_PATH, STATX_TYPE | STATX_SIZE | STATX_MTIME | STATX_CTIME, about) == 0;
+}
+
+static bool same_time(struct statx_timestamp one, struct statx_timestamp other)
+{
+    return one.tv_sec == other.tv_sec && one.tv_nsec == other.tv_nsec;
+}
+
+static bool is_unchanged(const struct statx *before, const struct statx *after)
+{
+    return before->stx_size == after->stx_size && same_time(before->stx_mtime, after->stx_mtime) &&
+           same_time(before->stx_ctime, after->stx_ctime);
+}
+
+/* What is wrong with a file, or NULL. A file of length 0 may have bytes all the same, as those below /proc. */
+static const char *read_file(int from, File *file)
+{
+    struct statx before, after;
+    if (!look(from, &before))
+        return strerror(errno);
+    bool is_plain = S_ISREG(before.stx_mode), is_told = is_plain && before.stx_size > 0;
+    size_t most = is_told && before.stx_size < ENOUGH ? (size_t)before.stx_size : ENOUGH;
+    if (!read_bytes(from, is_told ? most : FIRST_ROOM, most, file) || (is_plain && !look(from, &after)))
+        return strerror(errno);
+    if (is_plain && ((is_told && file->length < most) || !is_unchanged(&before, &after)))
+        return "changed while it was read";
+    return NULL;
 }
 
 bool open_file(const char *name, File *file)
 {
-    int from = open(name, O_RDONLY);
-    bool good = from >= 0 && (map_file(from, file) || read_file(from, file));
-    if (!good)
-        complain(name, strerror(errno));
-    if (from >= 0 && !(good && file->mapped))
+    *file = (File){NULL, 0};
+    int from = open(name, O_RDONLY | O_CLOEXEC);
+    const char *fault = from < 0 ? strerror(errno) : read_file(from, file);
+    if (fault) {
+        complain(name, fault);
+        close_file(file);
+    }
+    if (from >= 0)
         close(from);
-    return good;
-}
-
-void expect_whole(const File *file)
-{
-    if (file->mapped && lseek(file->from, 0, SEEK_END) < (off_t)file->length)
-        raise(SIGBUS);
+    return !fault;
 }
 
 void close_file(File *file)
 {
-    if (file->mapped) {
-        munmap((void *)file->bytes, file->length);
-        close(file->from);
-    } else if (file->bytes != no_bytes) {
-        free((void *)file->bytes);
-    }
+    free(file->bytes);
+    file->bytes = NULL;
 }

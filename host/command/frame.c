@@ -1,7 +1,5 @@
 /* panulimbe frame: files offered to a frame one after the other, and the frame as a picture. */
 #include <errno.h>
-#include <getopt.h>
-#include <stdio.h>
 #include <stdlib.h>
 #include <string.h>
 
@@ -10,25 +8,27 @@
 /* What the words before the files ask for. */
 typedef struct Wish {
     const char *slate, *out, *leader;
-    int progress;
+    bool progress;
 } Wish;
 
 static bool parse_wish(int count, char **words, Wish *wish)
 {
-    const struct option options[] = {
-        {"slate", required_argument, NULL, 's'},
-        {"output", required_argument, NULL, 'o'},
-        {"leader", required_argument, NULL, 'l'},
-        {"progress", no_argument, &wish->progress, 1},
+    enum { SLATE = LONG_ONLY, OUTPUT, LEADER, PROGRESS };
+    static const struct option options[] = {
+        {"slate", required_argument, NULL, SLATE},
+        {"output", required_argument, NULL, OUTPUT},
+        {"leader", required_argument, NULL, LEADER},
+        {"progress", no_argument, NULL, PROGRESS},
         {NULL, 0, NULL, 0},
     };
     int option;
-    while ((option = getopt_long(count, words, "o:", options, NULL)) != -1)
+    while ((option = next_option(count, words, ":o:", options)) != -1)
         switch (option) {
-        case 's': wish->slate = optarg; break;
+        case SLATE: wish->slate = optarg; break;
+        case OUTPUT:
         case 'o': wish->out = optarg; break;
-        case 'l': wish->leader = optarg; break;
-        case 0: break;
+        case LEADER: wish->leader = optarg; break;
+        case PROGRESS: wish->progress = true; break;
         default: return false;
         }
     return wish->slate && wish->out && optind < count;
@@ -71,12 +71,11 @@ static bool offer_file(Frame *frame, const char *name)
     HsdAnswer answer =
         hsd_offer(frame->slate, frame->marks, HSD_MARKS, frame->counts, frame->length, file.bytes, file.length);
     unsigned number = hsd_accept(file.bytes, file.length).number;
-    expect_whole(&file);
-    if (answer.refusal)
-        say("%s: refused %u %s, block %u\n", name, answer.refusal, refusal_name(answer.refusal), answer.block);
-    else
-        say("%s: placed %u of %u\n", name, number, frame->slate.total);
     close_file(&file);
+    if (answer.refusal)
+        say("%s: refused %u %s, block %u\n", shown(name), answer.refusal, refusal_name(answer.refusal), answer.block);
+    else
+        say("%s: placed %u of %u\n", shown(name), number, frame->slate.total);
     return true;
 }
 
@@ -116,7 +115,7 @@ static int fill(Frame *frame, const Wish *wish, const uint16_t *leader, int coun
             show_progress("file", (unsigned)i + 1, (unsigned)count);
     }
     say_record(frame);
-    if (!write_picture(wish->out, frame, leader, wish->progress))
+    if (!write_picture(wish->out, (Picture){frame, leader, wish->progress}))
         return UNWRITTEN;
     if (!readable)
         return UNUSABLE;
@@ -131,6 +130,8 @@ int frame(int count, char **words)
     unsigned leader_count = 0;
     if (!parse_wish(count, words, &wish))
         return misused("frame", "a slate, an output and at least one file");
+    if (!spares_inputs(wish.out, count - optind, words + optind))
+        return UNUSABLE;
     if (wish.leader && !parse_number(wish.leader, 0, 65535, &leader_count)) {
         complain(wish.leader, "not a count of 0 to 65535");
         return UNUSABLE;

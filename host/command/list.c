@@ -1,7 +1,4 @@
 /* panulimbe list: the listing's line about each file. */
-#include <stdio.h>
-#include <unistd.h>
-
 #include "command.h"
 
 static void say_line(HsdFile f)
@@ -15,24 +12,29 @@ static void say_line(HsdFile f)
 }
 
 /* Every name has its line, in order, so that the lines can be told apart: that of an unreadable file is empty. */
+static int list_file(const char *name)
+{
+    File file;
+    if (!open_file(name, &file)) {
+        say("\n");
+        return UNUSABLE;
+    }
+    HsdFile found = hsd_accept(file.bytes, file.length);
+    close_file(&file);
+    say_line(found);
+    return found.refusal ? REFUSED : GOOD;
+}
+
 int list(int count, char **words)
 {
-    int status = GOOD;
-    if (getopt(count, words, "") != -1 || optind == count)
+    int worst = GOOD;
+    if (has_options(count, words) || optind == count)
         return misused("list", "at least one file");
+    if (!spares_inputs(NULL, count - optind, words + optind))
+        return UNUSABLE;
     for (int i = optind; i < count; i++) {
-        File file;
-        if (!open_file(words[i], &file)) {
-            say("\n");
-            status = UNUSABLE;
-            continue;
-        }
-        HsdFile found = hsd_accept(file.bytes, file.length);
-        expect_whole(&file);
-        say_line(found);
-        if (found.refusal && status == GOOD)
-            status = REFUSED;
-        close_file(&file);
+        int status = list_file(words[i]);
+        worst = status > worst ? status : worst;
     }
-    return status;
+    return worst;
 }

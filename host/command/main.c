@@ -13,7 +13,8 @@ static const char overview[] =
     "panulimbe reading FILE LINE COLUMN                    what one count reads as\n"
     "\n"
     "'panulimbe SUBCOMMAND --help' says more. Exit status: 0 all is well; 1 something was refused or is\n"
-    "missing; 2 wrong usage, or a file that cannot be read; 3 an output that cannot be written.\n";
+    "missing; 2 wrong usage, or a file that cannot be read or changed meanwhile; 3 an output that cannot be\n"
+    "written.\n";
 
 static const char list_help[] =
     "panulimbe list FILE..\n"
@@ -22,10 +23,11 @@ static const char list_help[] =
     "  OK 8 57210 0200 13 FLDK 4 2 1 2 1   a good file: satellite, day, timeline, band, area, columns,\n"
     "                                      lines, segment number, segment total, first line\n"
     "  NO 1 1                              a refused one: the refusal's number and its block\n"
-    "  (an empty line)                     a file that cannot be read; standard error says why\n"
+    "  (an empty line)                     a file that cannot be read, or changed while it was read;\n"
+    "                                      standard error says which and why\n"
     "\n"
-    "Exit status: 0 all are good; 1 some file was refused; 2 some file cannot be read; 3 standard output\n"
-    "cannot be written.\n";
+    "Exit status: 0 all are good; 1 some file was refused; 2 wrong usage, or some file cannot be read or\n"
+    "changed meanwhile; 3 standard output cannot be written.\n";
 
 static const char frame_help[] =
     "panulimbe frame --slate SLATE -o PICTURE [--leader COUNT] [--progress] FILE..\n"
@@ -35,13 +37,15 @@ static const char frame_help[] =
     "  --slate SLATE      satellite, date, timeline, band, area, columns, segments, lines per segment, as\n"
     "                     H08,20150707,0200,13,FLDK,5500,10,550\n"
     "  -o, --output PICTURE   white is the greatest count of the band; error pixels, counts outside the scan\n"
-    "                     and counts over range are black. The name appears when the picture is whole\n"
+    "                     and counts over range are black. A file of this name appears, or is replaced, when\n"
+    "                     the picture is whole; a device, a pipe or /dev/stdout is written as it is\n"
     "  --leader COUNT     show missing lines as this count; otherwise they are 32 upright bands of white\n"
     "                     and black\n"
     "  --progress         show on standard error how far it is\n"
     "\n"
     "Exit status: 0 all segments are in, whatever else was offered and refused; 1 some are missing; 2 wrong\n"
-    "usage, a bad slate, or a file that cannot be read; 3 standard output or the picture cannot be written.\n";
+    "usage, a bad slate, a picture that is one of the files, or a file that cannot be read or changed\n"
+    "meanwhile; 3 standard output or the picture cannot be written.\n";
 
 static const char reading_help[] =
     "panulimbe reading FILE LINE COLUMN\n"
@@ -50,28 +54,18 @@ static const char reading_help[] =
     "'radiance 4.25', 'error pixel', 'outside', 'over range' or 'uncalibrated'; or why the file is refused.\n"
     "\n"
     "Exit status: 0 the count was read; 1 the file is refused; 2 wrong usage, no such line or column, or a\n"
-    "file that cannot be read; 3 standard output cannot be written.\n";
+    "file that cannot be read or changed meanwhile; 3 standard output cannot be written.\n";
 
 static const struct {
     const char *name, *help;
     int (*run)(int count, char **words);
 } subcommands[] = {{"list", list_help, list}, {"frame", frame_help, frame}, {"reading", reading_help, reading}};
 
-/* Of a mapped file that became shorter, the bytes that are gone cannot be had: nothing of it can be told. */
-static void shrank(int number)
-{
-    static const char text[] = "panulimbe: a file became shorter while it was read\n";
-    (void)number;
-    if (write(STDERR_FILENO, text, sizeof text - 1) < 0)
-        _exit(UNWRITTEN);
-    _exit(UNUSABLE);
-}
-
-/* A standard file that is closed is held, unwritable, so that no other file takes its number. */
+/* A standard file that is closed is held by what can be neither read nor written, so that no other file takes its number. */
 static void hold_standard_files(void)
 {
     for (int file = 0; file <= 2; file++)
-        if (fcntl(file, F_GETFD) < 0 && open("/dev/null", O_RDONLY) != file)
+        if (fcntl(file, F_GETFD) < 0 && open("/", O_RDONLY) != file)
             _exit(UNWRITTEN);
 }
 
@@ -81,7 +75,6 @@ int main(int count, char **words)
     /* a closed pipe and a file that may grow no further are errors of the write, and are told as such */
     signal(SIGPIPE, SIG_IGN);
     signal(SIGXFSZ, SIG_IGN);
-    signal(SIGBUS, shrank);
     if (count >= 2 && strcmp(words[1], "--help") == 0) {
         say("%s", overview);
         return GOOD;

@@ -1,7 +1,6 @@
 /* panulimbe reading: what one count of a file reads as. */
 #include <stdio.h>
 #include <stdlib.h>
-#include <unistd.h>
 
 #include "command.h"
 
@@ -19,11 +18,14 @@ static void say_radiance(double radiance)
 
 static void say_reading(HsdReading reading)
 {
-    static const char *const kinds[] = {"radiance", "error pixel", "outside", "over range", "uncalibrated"};
-    if (reading.kind == HSD_RADIANCE)
-        say_radiance(reading.radiance);
-    else
-        say("%s\n", kinds[reading.kind]);
+    switch (reading.kind) {
+    case HSD_RADIANCE: say_radiance(reading.radiance); break;
+    case HSD_ERROR_PIXEL: say("error pixel\n"); break;
+    case HSD_OUTSIDE: say("outside\n"); break;
+    case HSD_OVER_RANGE: say("over range\n"); break;
+    case HSD_UNCALIBRATED: say("uncalibrated\n"); break;
+    default: say("unknown\n"); break;
+    }
 }
 
 /* The count at a line and column of an accepted file, both from 1. */
@@ -38,7 +40,6 @@ static int read_one(const File *file, char **words)
 {
     HsdFile says = hsd_accept(file->bytes, file->length);
     unsigned line, column;
-    expect_whole(file);
     if (says.refusal) {
         say("refused %u %s, block %u\n", says.refusal, refusal_name(says.refusal), says.block);
         return REFUSED;
@@ -52,7 +53,6 @@ static int read_one(const File *file, char **words)
         return UNUSABLE;
     }
     uint16_t count = count_at(says, file->bytes, line, column);
-    expect_whole(file);
     say_reading(hsd_read_count(says.gain, says.constant, says.valid_bits, count));
     return GOOD;
 }
@@ -60,8 +60,10 @@ static int read_one(const File *file, char **words)
 int reading(int count, char **words)
 {
     File file;
-    if (getopt(count, words, "") != -1 || count - optind != 3)
+    if (has_options(count, words) || count - optind != 3)
         return misused("reading", "a file, a line and a column");
+    if (!spares_inputs(NULL, 1, words + optind))
+        return UNUSABLE;
     if (!open_file(words[optind], &file))
         return UNUSABLE;
     int status = read_one(&file, words + optind);

@@ -19,18 +19,38 @@ void say(const char *format, ...)
     }
 }
 
+/* What is not printable ASCII, and the backslash, becomes \xHH: no name can forge a line or move a terminal's cursor. */
+const char *shown(const char *word)
+{
+    static char *text;
+    free(text);
+    text = malloc(4 * strlen(word) + 1);
+    if (!text)
+        return "(no room for this name)";
+    char *end = text;
+    for (; *word; word++) {
+        unsigned char byte = (unsigned char)*word;
+        if (byte < ' ' || byte > '~' || byte == '\\')
+            end += sprintf(end, "\\x%02x", byte);
+        else
+            *end++ = *word;
+    }
+    *end = '\0';
+    return text;
+}
+
 const char *refusal_name(uint8_t refusal)
 {
     static const char *const names[] = {
         "FINE",     "SHORT", "NUMBER", "ORDER", "LENGTH", "FIXED", "PACKED",     "FIELD",   "HEADER SUM",
         "DATA SUM", "NAME",  "CUT",    "TAIL",  "SLATE",  "STRIP", "OTHER SHOT", "ALREADY", "ROOM",
     };
-    return names[refusal];
+    return refusal < sizeof names / sizeof *names ? names[refusal] : "UNKNOWN";
 }
 
 void complain(const char *about, const char *what)
 {
-    fprintf(stderr, "panulimbe: %s: %s\n", about, what);
+    fprintf(stderr, "panulimbe: %s: %s\n", shown(about), what);
 }
 
 int misused(const char *subcommand, const char *needs)
@@ -45,14 +65,4 @@ void show_progress(const char *what, unsigned done, unsigned all)
     if (done < all && done * 100UL / all == (done - 1) * 100UL / all)
         return;
     fprintf(stderr, "%s %u of %u%c", what, done, all, done < all ? '\r' : '\n');
-}
-
-bool parse_number(const char *text, unsigned long least, unsigned long most, unsigned *value)
-{
-    size_t digits = strspn(text, "0123456789");
-    if (digits == 0 || digits > 9 || text[digits] != '\0')
-        return false;
-    unsigned long number = strtoul(text, NULL, 10);
-    *value = (unsigned)number;
-    return least <= number && number <= most;
 }
