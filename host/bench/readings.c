@@ -13,7 +13,7 @@ static void read_proved(Bench *b)
     const uint16_t *counts = b->frame + MIDDLE * (b->size / FILES);
     double sum = 0;
     for (size_t i = 0; i < b->size / FILES; i++)
-        sum += hsd_read_count(f.gain, f.constant, f.valid_bits, counts[i]).radiance;
+        sum += hsd_reading(f, counts[i]).radiance;
     seen = sum;
 }
 

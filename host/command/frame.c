@@ -37,7 +37,7 @@ static bool parse_wish(int count, char **words, Wish *wish)
 /* What is wrong with a slate, or NULL. Asked to open a frame of no counts, the library still looks at the slate first. */
 static const char *slate_fault(const char *text, HsdSlate *slate)
 {
-    uint8_t marks[HSD_MARKS] = {0};
+    uint8_t marks[HSD_MARKS];
     uint16_t no_counts[1];
     if (!parse_slate(text, slate))
         return "not a slate, as H08,20150707,0200,13,FLDK,5500,10,550";
@@ -57,7 +57,6 @@ static bool open_frame(Frame *frame)
         complain("the frame", strerror(errno));
         return false;
     }
-    memset(frame->marks, 0, HSD_MARKS);
     hsd_open(frame->slate, frame->marks, HSD_MARKS, frame->counts, frame->length);
     return true;
 }

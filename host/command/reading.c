@@ -53,7 +53,7 @@ static int read_one(const File *file, char **words)
         return UNUSABLE;
     }
     uint16_t count = count_at(says, file->bytes, line, column);
-    say_reading(hsd_read_count(says.gain, says.constant, says.valid_bits, count));
+    say_reading(hsd_reading(says, count));
     return GOOD;
 }
 

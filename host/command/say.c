@@ -41,11 +41,27 @@ const char *shown(const char *word)
 
 const char *refusal_name(uint8_t refusal)
 {
-    static const char *const names[] = {
-        "FINE",     "SHORT", "NUMBER", "ORDER", "LENGTH", "FIXED", "PACKED",     "FIELD",   "HEADER SUM",
-        "DATA SUM", "NAME",  "CUT",    "TAIL",  "SLATE",  "STRIP", "OTHER SHOT", "ALREADY", "ROOM",
-    };
-    return refusal < sizeof names / sizeof *names ? names[refusal] : "UNKNOWN";
+    switch (refusal) {
+    case HSD_FINE: return "FINE";
+    case HSD_SHORT: return "SHORT";
+    case HSD_NUMBER: return "NUMBER";
+    case HSD_ORDER: return "ORDER";
+    case HSD_LENGTH: return "LENGTH";
+    case HSD_FIXED: return "FIXED";
+    case HSD_PACKED: return "PACKED";
+    case HSD_FIELD: return "FIELD";
+    case HSD_HEADER_SUM: return "HEADER SUM";
+    case HSD_DATA_SUM: return "DATA SUM";
+    case HSD_NAME: return "NAME";
+    case HSD_CUT: return "CUT";
+    case HSD_TAIL: return "TAIL";
+    case HSD_SLATE: return "SLATE";
+    case HSD_STRIP: return "STRIP";
+    case HSD_OTHER_SHOT: return "OTHER SHOT";
+    case HSD_ALREADY: return "ALREADY";
+    case HSD_ROOM: return "ROOM";
+    default: return "UNKNOWN";
+    }
 }
 
 void complain(const char *about, const char *what)
