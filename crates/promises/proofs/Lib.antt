@@ -4,6 +4,7 @@ pub mod Cases
 pub mod Refusals
 pub mod Demand1
 pub mod First
+pub mod Short
 pub mod Calls
 pub mod Told
 pub mod Demand2

@@ -5,4 +5,5 @@ pub mod Blocks
 pub mod Bare
 pub mod Calls
 pub mod Told
+pub mod Short
 pub mod Runs
