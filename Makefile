@@ -44,7 +44,11 @@ bench: all
 	rt check testcard
 	sh host/bench/run
 
+# Wrong functions with contracts to match, each refused by a theorem.
+pairs:
+	sh pairs/run
+
 clean:
 	rm -rf $(out) demo
 
-.PHONY: all install test demo bench clean
+.PHONY: all install test demo bench pairs clean
