@@ -1,5 +1,6 @@
 // What a file is made of: a plan has a place for each number.
 use crate::change;
+use samples::Plan;
 ghost use Prim.Native.Nat.{_<_};
 
 pub const ORDER: usize = 0;
@@ -32,21 +33,6 @@ pub const C: usize = 13;
 
 // What every byte holds that no rule speaks of.
 pub const FILL: usize = 14;
-
-// What follows from these: valid bits, resolution, the lengths of blocks 8 to 10, and the two sums.
-pub const BITS: usize = 15;
-
-pub const RESOLUTION: usize = 16;
-
-pub const LENGTH8: usize = 17;
-
-pub const LENGTH9: usize = 18;
-
-pub const LENGTH10: usize = 19;
-
-pub const HEADER: usize = 20;
-
-pub const DATA: usize = 21;
 
 // Areas, good and not: four letters, of which the first is the highest byte.
 pub const FLDK: usize = 0x464c_444b;
@@ -84,7 +70,7 @@ pub const R500: usize = 0x5235_3030;
 pub const R521: usize = 0x5235_3231;
 
 // The paper's file of 1,479 bytes.
-const PAPER: [usize; 22] = [
+const PAPER: [usize; 15] = [
     0,
     8,
     20150707,
@@ -100,37 +86,9 @@ const PAPER: [usize; 22] = [
     0,
     0,
     0,
-    0,
-    0,
-    0,
-    0,
-    0,
-    0,
-    0,
 ];
 
-// Valid bits and resolution by band, in hundreds and ones.
-const KINDS: [usize; 17] = [
-    0,
-    11_10,
-    11_10,
-    11_05,
-    11_10,
-    11_20,
-    11_20,
-    14_20,
-    11_20,
-    11_20,
-    12_20,
-    12_20,
-    12_20,
-    12_20,
-    12_20,
-    12_20,
-    11_20,
-];
-
-fn started(file: usize) -> [usize; 22] {
+fn started(file: usize) -> [usize; 15] {
     let mut p = PAPER;
     p[ORDER] = 1 - file % 2;
     if 3 <= file {
@@ -143,7 +101,7 @@ fn started(file: usize) -> [usize; 22] {
 }
 
 // Only places that a table can name are changed; place 0 stands for no change.
-fn changed(p: [usize; 22], x: usize) -> [usize; 22] {
+fn changed(p: [usize; 15], x: usize) -> [usize; 15] {
     let what = change::what(x);
     let mut q = p;
     if what != ORDER {
@@ -154,8 +112,8 @@ fn changed(p: [usize; 22], x: usize) -> [usize; 22] {
     q
 }
 
-// Where each block starts in a file without entries; 12 is for the counts.
-const STARTS: [usize; 13] = [
+// Where each block starts in a file without entries.
+const STARTS: [usize; 12] = [
     0,
     0,
     282,
@@ -168,49 +126,63 @@ const STARTS: [usize; 13] = [
     1112,
     1157,
     1204,
-    1463,
 ];
 
 // Where a block starts by the entries of those before it.
-pub(crate) fn start(p: [usize; 22], block: usize) -> usize
+pub(crate) fn start(p: [usize; 15], block: usize) -> usize
     ensures { λ r. ⌜ r < 2000000 ⌝ }
 {
-    let at = STARTS[block % 13] % 2048;
+    let at = STARTS[block % 12] % 2048;
     let at9 = at + 10 * (p[A] % 65536);
     let at10 = at9 + 10 * (p[B] % 65536);
     match block {
         9 => at9,
         10 => at10,
-        11 | 12 => at10 + 4 * (p[C] % 65536),
+        11 => at10 + 4 * (p[C] % 65536),
         _ => at,
     }
 }
 
-// How many bytes the counts are.
-pub(crate) fn counts(columns: usize, lines: usize) -> usize
-    ensures { λ r. ⌜ r < 8589934592 ⌝ }
-{
-    2 * (columns % 65536) * (lines % 65536)
+fn byte(n: usize) -> u8 {
+    (n % 256) as u8
 }
 
-fn completed(p: [usize; 22]) -> [usize; 22] {
-    let kind = KINDS[p[BAND] % 17];
-    let mut q = p;
-    q[BITS] = kind / 100;
-    q[RESOLUTION] = kind % 100;
-    q[LENGTH8] = 61 + 10 * (p[A] % 65536);
-    q[LENGTH9] = 45 + 10 * (p[B] % 65536);
-    q[LENGTH10] = 47 + 4 * (p[C] % 65536);
-    q[HEADER] = start(p, 12);
-    q[DATA] = counts(p[COLUMNS], p[LINES]);
-    q
+fn short(n: usize) -> u16 {
+    (n % 65536) as u16
+}
+
+fn long(n: usize) -> u32 {
+    (n % change::WHAT) as u32
+}
+
+// The same as samples has it. Counts are two of the bytes that no rule speaks of.
+pub(crate) fn made(p: [usize; 15]) -> Plan {
+    Plan {
+        order: byte(p[ORDER]),
+        satellite: byte(p[SATELLITE]),
+        date: long(p[DATE]),
+        timeline: short(p[TIMELINE]),
+        band: short(p[BAND]),
+        area: long(p[AREA]),
+        columns: short(p[COLUMNS]),
+        lines: short(p[LINES]),
+        number: byte(p[SEGMENT]),
+        total: byte(p[TOTAL]),
+        first: short(p[FIRST]),
+        a: short(p[A]),
+        b: short(p[B]),
+        c: short(p[C]),
+        fill: byte(p[FILL]),
+        count: short(p[FILL] % 256 * 257),
+        step: 0,
+    }
 }
 
 // The plan of a case.
-pub(crate) fn of_case(x: [usize; 4]) -> [usize; 22] {
+pub(crate) fn of_case(x: [usize; 4]) -> [usize; 15] {
     let p = started(x[0] / change::FILE);
     let p = changed(p, x[0]);
     let p = changed(p, x[1]);
     let p = changed(p, x[2]);
-    completed(changed(p, x[3]))
+    changed(p, x[3])
 }

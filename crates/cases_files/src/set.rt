@@ -286,7 +286,7 @@ fn put(out: &mut [u8], at: usize, field: usize, n: usize, order: u8) {
 }
 
 // Sets what a change names, where that is a field.
-pub(crate) fn apply(out: &mut [u8], p: [usize; 22], x: usize) {
+pub(crate) fn apply(out: &mut [u8], p: [usize; 15], x: usize) {
     let field = field_of(change::what(x));
     let block = field / 1000000;
     if block != 0 {

@@ -1,8 +1,8 @@
--- `cases::set::digits` is safe and ends: each turn leaves fewer digits. Assumes nothing.
+-- `cases_files::set::digits` is safe and ends: each turn leaves fewer digits. Assumes nothing.
 use Prim.Native.Nat.{_≤_, _-_}
 use borrow.Author.Needs.{needs}
-use Rattle.cases.proofs.set.digits.Statement.{statement}
-use Rattle.cases.proofs.set.digits.Tie as tie
+use Rattle.cases_files.proofs.set.digits.Statement.{statement}
+use Rattle.cases_files.proofs.set.digits.Tie as tie
 
 abbrev Inv-loop : tie.InvT-loop
 Inv-loop n d₀ n₀ i₀ d n' i = i ≤ 10
