@@ -70,23 +70,7 @@ pub const R500: usize = 0x5235_3030;
 pub const R521: usize = 0x5235_3231;
 
 // The paper's file of 1,479 bytes.
-const PAPER: [usize; 15] = [
-    0,
-    8,
-    20150707,
-    200,
-    13,
-    FLDK,
-    4,
-    2,
-    1,
-    2,
-    1,
-    0,
-    0,
-    0,
-    0,
-];
+const PAPER: [usize; 15] = [0, 8, 20150707, 200, 13, FLDK, 4, 2, 1, 2, 1, 0, 0, 0, 0];
 
 fn started(file: usize) -> [usize; 15] {
     let mut p = PAPER;
@@ -113,20 +97,7 @@ fn changed(p: [usize; 15], x: usize) -> [usize; 15] {
 }
 
 // Where each block starts in a file without entries.
-const STARTS: [usize; 12] = [
-    0,
-    0,
-    282,
-    332,
-    459,
-    598,
-    745,
-    1004,
-    1051,
-    1112,
-    1157,
-    1204,
-];
+const STARTS: [usize; 12] = [0, 0, 282, 332, 459, 598, 745, 1004, 1051, 1112, 1157, 1204];
 
 // Where a block starts by the entries of those before it.
 pub(crate) fn start(p: [usize; 15], block: usize) -> usize
@@ -173,6 +144,7 @@ pub(crate) fn made(p: [usize; 15]) -> Plan {
         b: short(p[B]),
         c: short(p[C]),
         fill: byte(p[FILL]),
+        vary: 0,
         count: short(p[FILL] % 256 * 257),
         step: 0,
     }

@@ -38,6 +38,7 @@ fn planned(p: [usize; 19]) -> Plan {
         b: 0,
         c: plan::short(p, plan::ENTRIES),
         fill: 0,
+        vary: 0,
         count: first_count(take, segment),
         step: step(take),
     }

@@ -27,6 +27,7 @@ paperPlan = record {
   b = 0;
   c = 0;
   fill = 0;
+  vary = 0;
   count = 0;
   step = 0;
 }
@@ -56,9 +57,13 @@ countsFor p = dataLength (p .columns) (p .lines)
 abbrev pub lengthFor : Plan → ℕ
 lengthFor p = headerFor p + countsFor p
 
--- every byte of the header that no piece below holds, in a buffer of n bytes
+-- byte i of the header where no rule speaks
+abbrev pub byteOf : Plan → ℕ → ℕ
+byteOf p i = (p .fill + p .vary * (i % 256)) % 256
+
+-- the header before any field is stored, in a buffer of n bytes
 abbrev pub blank : Plan → ℕ → Piece
-blank p n = piece 0 (rows (λ (i : ℕ). p .fill ∷ []) (min (headerFor p) n))
+blank p n = piece 0 (rows (λ (i : ℕ). byteOf p i ∷ []) (min (headerFor p) n))
 
 -- block 1 but for its name: Himawari-, a digit and six zero bytes; area, timeline, lengths
 unfoldable pub basic : Plan → List Piece

@@ -5,7 +5,7 @@ ghost use mathlib.Core.List.{[], _∷_};
 ghost use lib.ListN.{length};
 ghost use Rattle.wire.specs.Wire.{digits, rows, Stored};
 ghost use Rattle.samples.specs.Pieces.{filed};
-ghost use Rattle.samples.specs.Sample.{paperPlan, bitsFor, resolutionFor, two, head, lengthFor, basic, name, middle, back, countOf, sample};
+ghost use Rattle.samples.specs.Sample.{paperPlan, bitsFor, resolutionFor, two, head, lengthFor, basic, name, middle, back, byteOf, countOf, sample};
 
 // What a file is made of; the rest of it follows from these.
 pub struct Plan {
@@ -27,8 +27,9 @@ pub struct Plan {
     pub a: u16,
     pub b: u16,
     pub c: u16,
-    // every byte of the header that no rule speaks of, entries too
+    // the first byte of the header where no rule speaks, entries too, and what the next one is more
     pub fill: u8,
+    pub vary: u8,
     // the first count, and what the next one is more
     pub count: u16,
     pub step: u16,
@@ -54,6 +55,7 @@ pub fn paper() -> Plan
         b: 0,
         c: 0,
         fill: 0,
+        vary: 0,
         count: 0,
         step: 0,
     }
@@ -108,21 +110,28 @@ fn put_head(out: &mut [u8], at: usize, block: u8, long: u32, order: u8)
     wire::put_u16(out, at + 1, (long % 65536) as u16, order);
 }
 
-// The same byte, n times from the front on.
-fn spread(out: &mut [u8], n: usize, b: u8)
-    ensures { λ _. ⌜ Stored (1 * n) (now (out .entry)) 0 (rows (λ i. b ∷ []) n) (now (out .exit)) ⌝ }
+// The byte at a place of the header where no rule speaks.
+fn byte_of(fill: u8, vary: u8, i: usize) -> u8
+    ensures { λ r. ⌜ r ≡ (fill + vary * (i % 256)) % 256 ⌝ }
+{
+    ((fill as usize + (vary as usize) * (i % 256)) % 256) as u8
+}
+
+// The first n of these bytes.
+fn spread(out: &mut [u8], n: usize, p: Plan)
+    ensures { λ _. ⌜ Stored (1 * n) (now (out .entry)) 0 (rows (λ i. byteOf p i ∷ []) n) (now (out .exit)) ⌝ }
 {
     let mut i = 0;
     while i < n {
-        wire::put_byte(out, i, b);
+        wire::put_byte(out, i, byte_of(p.fill, p.vary, i));
         i += 1;
     }
 }
 
-fn count_of(p: Plan, i: usize) -> u16
-    ensures { λ r. ⌜ r ≡ countOf p i ⌝ }
+fn count_of(count: u16, step: u16, i: usize) -> u16
+    ensures { λ r. ⌜ r ≡ (count + step * (i % 65536)) % 65536 ⌝ }
 {
-    ((p.count as usize + (p.step as usize) * (i % 65536)) % 65536) as u16
+    ((count as usize + (step as usize) * (i % 65536)) % 65536) as u16
 }
 
 // The first n counts, from a place on.
@@ -132,7 +141,7 @@ fn put_counts(out: &mut [u8], at: usize, n: usize, p: Plan)
 {
     let mut i = 0;
     while i < n {
-        wire::put_u16(out, at + 2 * i, count_of(p, i), p.order);
+        wire::put_u16(out, at + 2 * i, count_of(p.count, p.step, i), p.order);
         i += 1;
     }
 }
@@ -236,7 +245,7 @@ pub fn make(out: &mut [u8], p: Plan) -> usize
     let room = out.len();
     let front = header::header_length(p.a, p.b, p.c) as usize;
     let counts = (p.columns as usize) * (p.lines as usize);
-    spread(out, least(front, room), p.fill);
+    spread(out, least(front, room), p);
     put_basic(out, p);
     put_name(out, p);
     put_middle(out, p);

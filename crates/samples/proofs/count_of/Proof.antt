@@ -12,10 +12,10 @@ small s i h =
     mul-le-mul h q
 
 mul-result : tie.Need-mul-result
-mul-result c = omega (arith, small (c .before .before .args .p .step) (c .before .before .args .i) (search needs))
+mul-result c = omega (arith, small (c .args .step) (c .args .i) (search needs))
 
 add-result : tie.Need-add-result
-add-result c = omega (arith, small (c .before .before .args .p .step) (c .before .before .args .i) (search needs))
+add-result c = omega (arith, small (c .args .step) (c .args .i) (search needs))
 
 pub count-of-spec : {M : Type 1} → statement M
-count-of-spec = tie.close (tie.spec (λ c. search needs) (λ c. search needs) mul-result add-result (λ c. search needs) (λ c. search needs))
+count-of-spec = tie.close (tie.spec mul-result add-result (λ c. search needs) (λ c. search needs))
