@@ -87,7 +87,7 @@ pub(crate) fn of(p: [usize; 19], part: usize) -> usize {
     p[place(part)]
 }
 
-fn long(p: [usize; 19], part: usize) -> u32 {
+pub(crate) fn long(p: [usize; 19], part: usize) -> u32 {
     (of(p, part) % PART) as u32
 }
 
