@@ -81,6 +81,8 @@ use Rattle.frame.proofs.empty.Reads as empty
 use Rattle.frame.proofs.is_marked.Reads as is-marked
 use Rattle.frame.proofs.tally.Reads as tally
 use Rattle.frame.proofs.one.Reads as one
+use Rattle.samples.proofs.paper.Reads as paper-plan
+use Rattle.samples.proofs.make.Reads as make-sample
 use Rattle.frame.proofs.open.Reads as opening
 use Rattle.frame.proofs.offer.Reads as offering
 use Rattle.frame.proofs.line_of.Reads as line-of
@@ -462,3 +464,11 @@ hsd-line-one = (
   λ κ a x y s t p q. p .0 ∙ sym (q .0),
   λ κ a x y s t p q. p .1 ∙ sym (q .1),
 )
+
+-- ---- samples
+
+pub paper-plan-one : One (λ κ x s. x) paper-plan.Post
+paper-plan-one κ a x y s t p q = p ∙ sym q
+
+pub make-sample-one : One (λ κ x s. x) make-sample.Post × One (λ κ x s. now (s .0)) make-sample.Post
+make-sample-one = (λ κ a x y s t p q. p .0 ∙ sym (q .0), λ κ a x y s t p q. p .1 ∙ sym (q .1))
