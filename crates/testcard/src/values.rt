@@ -1,80 +1,42 @@
-// The header's values of a segment that was asked for; times and runs that nothing is known of are zeros.
+// The header's values of a segment that was asked for: a sample's, with texts and a calibration; times and runs that nothing is known of
+// are zeros.
 use crate::words::Asked;
-use header::Block1;
-use header::Block2;
-use header::Block5;
-use header::Block7;
-use header::Block8;
 use header::Header;
+use samples::Plan;
 
-// The satellite's digit; a number that is none has no digit.
-fn digit_of(satellite: u16) -> u8 {
-    match satellite {
-        8 => b'8',
-        9 => b'9',
+// A satellite that is none becomes one that the writer refuses.
+fn satellite(number: u16) -> u8 {
+    match number {
+        8 => 8,
+        9 => 9,
         _ => 0,
     }
 }
 
-fn satellite(number: u16) -> [u8; 16] {
-    let mut text = [0u8; 16];
-    wire::put(&mut text, 0, b"Himawari-");
-    wire::put_byte(&mut text, 9, digit_of(number));
-    text
+// The line that a segment starts with, when all are alike; 0 and 65,535 are no such lines.
+fn first_line(number: u8, lines: u16) -> u16 {
+    if number == 0 {
+        return 0;
+    }
+    let first = 1 + (number as u32 - 1) * (lines as u32);
+    if first < 65535 { first as u16 } else { 65535 }
 }
 
-fn centre() -> [u8; 16] {
-    let mut text = [0u8; 16];
-    wire::put(&mut text, 0, b"MSC");
-    text
-}
-
-fn version() -> [u8; 32] {
-    let mut text = [0u8; 32];
-    wire::put(&mut text, 0, b"1.1");
-    text
-}
-
-fn block1(a: Asked) -> Block1 {
-    let satellite = satellite(a.satellite);
-    let date = a.date;
+// All but the date, which may be no number.
+fn plan_of(a: Asked) -> Plan {
     let area = a.area;
-    let name = format::name_for(
-        format::satellite_of(satellite),
-        date,
-        a.timeline,
-        a.band,
-        area,
-        a.number,
-        a.total,
-    );
-    Block1 {
-        order: a.order,
-        satellite,
-        centre: centre(),
-        area,
-        other: [0; 2],
-        timeline: a.timeline,
-        started: 0,
-        ended: 0,
-        created: 0,
-        quality1: 0,
-        quality2: 0,
-        quality3: 0,
-        quality4: 0,
-        version: version(),
-        name,
-        spare: [0; 40],
-    }
-}
-
-fn block2(a: Asked) -> Block2 {
-    Block2 {
-        columns: a.columns,
-        lines: a.lines,
-        compression: 0,
-        spare: [0; 40],
-    }
+    let mut p = samples::paper();
+    p.order = a.order;
+    p.satellite = satellite(a.satellite);
+    p.timeline = a.timeline;
+    p.band = a.band;
+    p.area = wire::u32_at(&area, 0, 1);
+    p.columns = a.columns;
+    p.lines = a.lines;
+    p.number = a.number;
+    p.total = a.total;
+    p.first = first_line(a.number, a.lines);
+    p
 }
 
 // Sunlight grows with the count, and warmth falls: the greatest count is the coldest.
@@ -95,52 +57,14 @@ fn constant(band: u16) -> u64 {
     }
 }
 
-fn block5(a: Asked) -> Block5 {
-    Block5 {
-        band: a.band,
-        wavelength: 0,
-        bits: format::band_of(a.band).bits,
-        gain: gain(a.band),
-        constant: constant(a.band),
-        carried: [0; 112],
-    }
-}
-
-// The line that a segment starts with, when all are alike; 0 and 65,535 are no such lines.
-fn first_line(number: u8, lines: u16) -> u16 {
-    if number == 0 {
-        return 0;
-    }
-    let first = 1 + (number as u32 - 1) * (lines as u32);
-    if first < 65535 { first as u16 } else { 65535 }
-}
-
-fn block7(a: Asked) -> Block7 {
-    Block7 {
-        total: a.total,
-        number: a.number,
-        first: first_line(a.number, a.lines),
-        spare: [0; 40],
-    }
-}
-
 pub(crate) fn header_of(a: Asked) -> Header {
-    Header {
-        block1: block1(a),
-        block2: block2(a),
-        carried3: [0; 124],
-        carried4: [0; 136],
-        block5: block5(a),
-        carried6: [0; 256],
-        block7: block7(a),
-        block8: Block8 {
-            column: 0,
-            line: 0,
-            rotation: 0,
-            spare: [0; 40],
-        },
-        spare9: [0; 40],
-        spare10: [0; 40],
-        spare11: [0; 256],
-    }
+    let date = a.date;
+    let mut out = [0u8; 1463];
+    samples::make(&mut out, plan_of(a));
+    wire::put(&mut out, 22, b"MSC");
+    wire::put(&mut out, 82, b"1.1");
+    wire::put(&mut out, 121, &date);
+    wire::put_u64(&mut out, 617, gain(a.band), a.order);
+    wire::put_u64(&mut out, 625, constant(a.band), a.order);
+    header::read_header(&out)
 }
