@@ -1,2 +1,3 @@
 -- The laws of the loops.
 pub mod Digits
+pub mod NoNan

@@ -2,7 +2,9 @@
 // area, columns, lines, number, total and byte order, as in `testcard 8 20150707 0200 13 FLDK 5500 550 3 10 0`. The writer judges them: what
 // it refuses is told in one line on standard error, and nothing is written.
 mod card;
+mod carried;
 mod faults;
+mod reals;
 mod values;
 mod words;
 

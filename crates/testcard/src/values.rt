@@ -1,5 +1,6 @@
-// The header's values of a segment that was asked for: a sample's, with texts and a calibration; times and runs that nothing is known of
-// are zeros.
+// The header's values of a segment that was asked for: a sample's, with texts, times and what the paper says of blocks 3 to 6.
+use crate::carried;
+use crate::reals;
 use crate::words::Asked;
 use header::Header;
 use samples::Plan;
@@ -39,32 +40,52 @@ fn plan_of(a: Asked) -> Plan {
     p
 }
 
-// Sunlight grows with the count, and warmth falls: the greatest count is the coldest.
-fn gain(band: u16) -> u64 {
-    match band {
-        1..=6 => f64::to_bits(0.375),
-        7 => f64::to_bits(-0.000244140625),
-        8 | 9 | 16 => f64::to_bits(-0.0078125),
-        _ => f64::to_bits(-0.00390625),
-    }
+// All lines of the frame; one that has more is refused.
+fn all_lines(lines: u16, total: u8) -> u16 {
+    let n = (lines as u32) * (total as u32);
+    if n < 65535 { n as u16 } else { 65535 }
 }
 
-fn constant(band: u16) -> u64 {
-    match band {
-        1..=6 => f64::to_bits(-7.5),
-        7 => f64::to_bits(4.0),
-        _ => f64::to_bits(16.0),
-    }
+// The day of a header's name, and the timeline's minutes, as Modified Julian Days.
+fn shot_time(out: &[u8], timeline: u16) -> f64 {
+    let mut name = [0u8; 128];
+    wire::fill(&mut name, out, 114);
+    let day = format::day_or_0(format::date_of(name));
+    let minutes = timeline / 100 * 60 + timeline % 100;
+    (day as f64) + (minutes as f64) / 1440.0
+}
+
+// Segments are taken one after the other, all within ten minutes, and a file is made a quarter of an hour later.
+fn put_times(out: &mut [u8; 1463], shot: f64, number: u8, total: u8, order: u8) {
+    let each = 1.0 / 150.0 / (total as f64);
+    let ended = shot + (number as f64) * each;
+    reals::put(out, 46, &[ended - each, ended, ended + 0.01], order);
+}
+
+// So no caller has to prove how long it is.
+fn values_of(file: &[u8; 1463]) -> Header {
+    header::read_header(file)
 }
 
 pub(crate) fn header_of(a: Asked) -> Header {
     let date = a.date;
+    let resolution = format::band_of(a.band).resolution;
     let mut out = [0u8; 1463];
     samples::make(&mut out, plan_of(a));
     wire::put(&mut out, 22, b"MSC");
     wire::put(&mut out, 82, b"1.1");
     wire::put(&mut out, 121, &date);
-    wire::put_u64(&mut out, 617, gain(a.band), a.order);
-    wire::put_u64(&mut out, 625, constant(a.band), a.order);
-    header::read_header(&out)
+    let shot = shot_time(&out, a.timeline);
+    put_times(&mut out, shot, a.number, a.total, a.order);
+    carried::put_projection(
+        &mut out,
+        resolution,
+        a.columns,
+        all_lines(a.lines, a.total),
+        a.order,
+    );
+    carried::put_navigation(&mut out, shot, a.order);
+    carried::put_calibration(&mut out, a.band, a.order);
+    carried::put_no_more(&mut out, a.order);
+    values_of(&out)
 }
