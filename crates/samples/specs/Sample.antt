@@ -91,10 +91,6 @@ name p =
     piece 114 form
     ∷ piece 157 (replicate 85 0)
     ∷ piece 118 (two (p .satellite))
-    ∷ piece 121 (two (p .date / 1000000))
-    ∷ piece 123 (two (p .date / 10000))
-    ∷ piece 125 (two (p .date / 100))
-    ∷ piece 127 (two (p .date))
     ∷ piece 130 (two (p .timeline / 100))
     ∷ piece 132 (two (p .timeline))
     ∷ piece 136 (two (p .band))
@@ -102,6 +98,15 @@ name p =
     ∷ piece 145 (two (resolutionFor (p .band)))
     ∷ piece 149 (two (p .number))
     ∷ piece 151 (two (p .total))
+    ∷ []
+
+-- the date in it
+unfoldable pub dated : ℕ → List Piece
+dated d =
+    piece 121 (two (d / 1000000))
+    ∷ piece 123 (two (d / 10000))
+    ∷ piece 125 (two (d / 100))
+    ∷ piece 127 (two d)
     ∷ []
 
 -- blocks 2 to 7: sizes and no compression, calibration, segment
@@ -151,4 +156,4 @@ counts p n = piece (headerFor p) (rows (λ (i : ℕ). digits (p .order) 2 (count
 
 -- l with the plan's file at its front: nothing else of l changes
 unfoldable pub sample : Plan → List ℕ → List ℕ
-sample p l = filed l (blank p (length l) ∷ (basic p ++ (name p ++ (middle p ++ (back p ++ (counts p (length l) ∷ []))))))
+sample p l = filed l (blank p (length l) ∷ (basic p ++ (name p ++ (dated (p .date) ++ (middle p ++ (back p ++ (counts p (length l) ∷ [])))))))

@@ -5,7 +5,7 @@ ghost use mathlib.Core.List.{[], _∷_};
 ghost use lib.ListN.{length};
 ghost use Rattle.wire.specs.Wire.{digits, rows, Stored};
 ghost use Rattle.samples.specs.Pieces.{filed};
-ghost use Rattle.samples.specs.Sample.{paperPlan, bitsFor, resolutionFor, two, head, lengthFor, basic, name, middle, back, byteOf, countOf, sample};
+ghost use Rattle.samples.specs.Sample.{paperPlan, bitsFor, resolutionFor, two, head, lengthFor, basic, name, dated, middle, back, byteOf, countOf, sample};
 
 // What a file is made of; the rest of it follows from these.
 pub struct Plan {
@@ -101,6 +101,19 @@ fn put_two(out: &mut [u8], at: usize, n: u32)
     wire::put2(out, at, [glyph(n / 10), glyph(n)]);
 }
 
+// The same of a number of one or two bytes: so no caller has to prove a cast.
+fn put_small(out: &mut [u8], at: usize, n: u8)
+    ensures { λ _. ⌜ Stored 2 (now (out .entry)) at (two n) (now (out .exit)) ⌝ }
+{
+    put_two(out, at, n as u32);
+}
+
+fn put_short(out: &mut [u8], at: usize, n: u16)
+    ensures { λ _. ⌜ Stored 2 (now (out .entry)) at (two n) (now (out .exit)) ⌝ }
+{
+    put_two(out, at, n as u32);
+}
+
 // The number and the length of a block.
 fn put_head(out: &mut [u8], at: usize, block: u8, long: u32, order: u8)
     requires { ⌜ at < 10000000 ⌝ }
@@ -146,7 +159,7 @@ fn put_counts(out: &mut [u8], at: usize, n: usize, p: Plan)
     }
 }
 
-// The fields of block 1, of its name, of blocks 2 to 7 and of those after them.
+// The fields of block 1, of its name and the date there, of blocks 2 to 7 and of those after them.
 fn put_basic(out: &mut [u8], p: Plan)
     ensures { λ _. ⌜ now (out .exit) ≡ filed (now (out .entry)) (basic p) ⌝ }
 {
@@ -186,18 +199,23 @@ fn put_name(out: &mut [u8], p: Plan)
     let zeros = [0u8; 85];
     wire::put(out, 114, b"HS_H00_00000000_0000_B00_0000_R00_S0000.DAT");
     wire::put(out, 157, &zeros);
-    put_two(out, 118, p.satellite as u32);
-    put_two(out, 121, p.date / 1000000);
-    put_two(out, 123, p.date / 10000);
-    put_two(out, 125, p.date / 100);
-    put_two(out, 127, p.date);
-    put_two(out, 130, p.timeline as u32 / 100);
-    put_two(out, 132, p.timeline as u32);
-    put_two(out, 136, p.band as u32);
+    put_small(out, 118, p.satellite);
+    put_short(out, 130, p.timeline / 100);
+    put_short(out, 132, p.timeline);
+    put_short(out, 136, p.band);
     wire::put_u32(out, 139, p.area, 1);
     put_two(out, 145, resolution_of(p.band));
-    put_two(out, 149, p.number as u32);
-    put_two(out, 151, p.total as u32);
+    put_small(out, 149, p.number);
+    put_small(out, 151, p.total);
+}
+
+fn put_date(out: &mut [u8], date: u32)
+    ensures { λ _. ⌜ now (out .exit) ≡ filed (now (out .entry)) (dated date) ⌝ }
+{
+    put_two(out, 121, date / 1000000);
+    put_two(out, 123, date / 10000);
+    put_two(out, 125, date / 100);
+    put_two(out, 127, date);
 }
 
 fn put_middle(out: &mut [u8], p: Plan)
@@ -248,6 +266,7 @@ pub fn make(out: &mut [u8], p: Plan) -> usize
     spread(out, least(front, room), p);
     put_basic(out, p);
     put_name(out, p);
+    put_date(out, p.date);
     put_middle(out, p);
     put_back(out, p);
     put_counts(out, front, least(counts, room), p);
