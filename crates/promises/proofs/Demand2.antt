@@ -36,9 +36,9 @@ use Rattle.tiling.specs.Made.{Fit, Made, IsAccepted, Readable, Writable}
 use Rattle.tiling.proofs.Lawful.{lawful-is, lawful-of, lawful-exactly}
 use Rattle.tiling.proofs.Exactly as tiling
 use Rattle.promises.specs.Calls.{Answered, answered, Read, Written}
-use Rattle.promises.specs.Told.{Told}
+use Rattle.promises.specs.Told.{Told, Shown}
 use Rattle.promises.proofs.Calls.{fine-is, got, fine-read, wrote}
-use Rattle.promises.proofs.Told.{told, same-told, by-block5}
+use Rattle.promises.proofs.Told.{told, same-told, by-block5, free, shown-accepted, shown-at}
 
 -- accepted exactly when there are good values, entries and counts that make it
 pub exactly : (s : List ℕ) → Bytes s → IsAccepted s ↔ Made s
@@ -104,6 +104,19 @@ accepted-told {s} {f = f} b (answered κ a x t p i) q rd =
     let h = got rd (g .0) in
     let k = tiling.reads-back s m in
     same-told (sym (g .1)) (h .header ∙ k .0) (h .entries ∙ k .1) (told s m)
+
+-- From C: a file is answered 0 exactly when it is made, and then what is shown is told of the values and entries that the readers give.
+pub accepted-from-c : {s : List ℕ} {w : Verdict} {ws : List Verdict} {v : Header} {e : Entries} → Bytes s → Read s w ws v e
+    → (κ : _) (a : _) (r : _) (t : _) → hsd-accept.Post κ a r t → now (a .0) ≡ s
+    → ((r .refusal ≡ 0) ↔ Made s) × (r .refusal ≡ 0 → Shown r (factsOf s) × Told (factsOf s) v e)
+accepted-from-c {s} b rd κ a r t p i =
+    let y : r ≡ shownFile (answerOf s) = p ∙ ap (λ (l : List ℕ). shownFile (answerOf l)) i in
+    let zero : r .refusal ≡ 0 → judge fine (checks s) ≡ fine = λ z. free s (ap (λ (h : HsdFile). h .refusal) (sym y) ∙ z) in
+    let made : r .refusal ≡ 0 → Made s = λ z. tiling.accepted-exactly s b .0 (tiling.fine-accepted s (zero z)) in (
+      (made, λ m. ap (λ (h : HsdFile). h .refusal) y ∙ shown-accepted s (tiling.accepted-fine s (tiling.made-accepted s m)) .refusal),
+      λ z. let h = got rd (zero z) in let k = tiling.reads-back s (made z) in
+      (shown-at y (shown-accepted s (zero z)), same-told refl (h .header ∙ k .0) (h .entries ∙ k .1) (told s (made z))),
+    )
 
 -- Gain and constant travel together from block 5: what C reads of a count by the answer to an accepted file is its reading by the values that the readers give.
 pub read-by-block5 : {s : List ℕ} {w : Verdict} {ws : List Verdict} {v : Header} {e : Entries} → Bytes s → Read s w ws v e

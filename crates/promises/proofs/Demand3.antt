@@ -7,7 +7,10 @@ use mathlib.Core.List.{List, List·Memᴰ, List·Permᴰ}
 use Prim.Native.Nat.{ℕ, _≤_}
 use lib.ListN.{length, take, replicate}
 use denote.Ref.{now}
-use Rattle.rules.specs.Rules.{Turned, refused, paper}
+use mathlib.Core.Logic.{_↔_}
+use Rattle.rules.specs.Rules.{Turned, fine, refused, judge, paper}
+use Rattle.accept.specs.Checks.{checks}
+use Rattle.accept.specs.Answers.{factsOf}
 use Rattle.slate.specs.declared.Slate.{Slate}
 use Rattle.slate.specs.Cut.{coverOf}
 use Rattle.slate.specs.Slates.{goodSlate, frameLines, frameSize}
@@ -22,9 +25,24 @@ use Rattle.assembly.proofs.Demand.{apart-agree}
 use Rattle.assembly.proofs.Runs as runs
 use Rattle.plugin_frames.specs.declared.HsdSlate.{HsdSlate}
 use Rattle.plugin_frames.specs.Strips.{slateIn, shownRuling, marksIn}
+use Rattle.promises.specs.Slated.{Good, Match}
+use Rattle.promises.proofs.Slated.{good-exactly, bears-exactly}
+use Rattle.promises.proofs.Slated as from-slate
 use Rattle.promises.specs.Runs.{Offer, filesOf, RanC, AskedC}
 use Rattle.promises.proofs.Runs.{Lifted, lifted, Copied}
 use Rattle.promises.proofs.Runs as from
+
+-- a slate is good, and a file is one of its segments, exactly where document 01 says so (Slated: `Good`, `Match`)
+pub good : (s : Slate) → (goodSlate s ≡ true) ↔ Good s
+good = good-exactly
+
+pub bearing : (s : Slate) (k : ℕ) (f : File) → (bears s k f ≡ true) ↔ ((judge fine (checks f) ≡ fine) × Match s (factsOf f) × (factsOf f .number ≡ k))
+bearing = bears-exactly
+
+-- whatever call places a file: the slate is good, the file accepted, and all its parts agree with the slate's
+pub placing : (κ : _) (a : _) (r : _) (t : _) → offering.Post κ a r t → paper (r .verdict) ≡ fine
+    → Good (a .0) × (judge fine (checks (now (a .1 .1 .1 .0))) ≡ fine) × Match (a .0) (factsOf (now (a .1 .1 .1 .0)))
+placing = from-slate.placed
 
 -- a refused offer leaves the record and every count of the frame
 pub leaves : (κ : _) (a : _) (r : _) (t : _) (u : Turned) → offering.Post κ a r t → paper (r .verdict) ≡ refused u

@@ -9,4 +9,5 @@ pub mod Calls
 pub mod Told
 pub mod Demand2
 pub mod Runs
+pub mod Slated
 pub mod Demand3

@@ -4,7 +4,7 @@ use mathlib.Core.List.{List}
 use Prim.Native.Nat.{ℕ, _+_}
 use lib.ListN.{length}
 use Rattle.wire.specs.Wire.{Bytes, num}
-use Rattle.rules.specs.Rules.{fine, judge, reply}
+use Rattle.rules.specs.Rules.{fine, judge, says, reply}
 use Rattle.rules.specs.declared.Verdict.{Verdict}
 use Rattle.reading.specs.Counts.{calibrationOf}
 use Rattle.header.specs.declared.Header.{Header}
@@ -17,6 +17,7 @@ use Rattle.format.specs.Names.{dateOf, dayOr0}
 use Rattle.accept.specs.declared.Facts.{Facts}
 use Rattle.accept.specs.Checks.{checks}
 use Rattle.accept.specs.Answers.{factsOf, calibrationIn, answerOf}
+use Rattle.plugin.specs.declared.HsdFile.{HsdFile}
 use Rattle.plugin.specs.Plugin.{shownFile, calibrationC}
 use Rattle.tiling.specs.Lawful.{Named}
 use Rattle.tiling.specs.Made.{Made}
@@ -24,7 +25,7 @@ use Rattle.tiling.proofs.Back.{long}
 use Rattle.tiling.proofs.Lawful.{satellite-of, dated}
 use Rattle.tiling.proofs.Exactly.{says-made, reads-back}
 use Rattle.promises.specs.Calls.{Read}
-use Rattle.promises.specs.Told.{Told}
+use Rattle.promises.specs.Told.{Told, Shown}
 use Rattle.promises.proofs.Refusals.{file-fine}
 use Rattle.promises.proofs.Demand1.{in-checks}
 use Rattle.promises.proofs.Calls.{got}
@@ -85,13 +86,49 @@ module _ (s : List ℕ) (m : Made s) where
         day = day ∙ ap dayOr0 (dated named);
       }
 
+-- C is told of no refusal only where no check fails
+pub free : (s : List ℕ) → shownFile (answerOf s) .refusal ≡ 0 → judge fine (checks s) ≡ fine
+unfolding answerOf
+free s z = file-fine (checks s) (in-checks s) (judge fine (checks s)) (factsOf s) refl z
+
 -- what C reads the counts of an accepted file by, of the values that the readers give
 pub by-block5 : {s : List ℕ} {w : Verdict} {ws : List Verdict} {v : Header} {e : Entries} → Bytes s → Read s w ws v e → shownFile (answerOf s) .refusal ≡ 0
     → calibrationC (shownFile (answerOf s)) ≡ calibrationOf (v .block5 .gain) (v .block5 .constant) (v .block5 .bits)
 unfolding answerOf reply shownFile calibrationIn
 by-block5 {s} {v = v} b rd z =
-    let g : judge fine (checks s) ≡ fine = file-fine (checks s) (in-checks s) (judge fine (checks s)) (factsOf s) refl z in
+    let g = free s z in
     let m = says-made s b (factsOf s) (rw g) in
     let h = told s m in
     let k : m .v ≡ v = sym (reads-back s m .0) ∙ sym (got rd g .header) in
     rw g (λ i. calibrationOf ((h .gain ∙ ap (λ (v : Header). v .block5 .gain) k) i) ((h .constant ∙ ap (λ (v : Header). v .block5 .constant) k) i) ((h .bits ∙ ap (λ (v : Header). v .block5 .bits) k) i))
+
+-- what C is shown of a file that no check refuses
+shown-fine : (f : Facts) → Shown (shownFile (says f)) f
+unfolding shownFile calibrationIn
+shown-fine f = record {
+  refusal = refl;
+  block = refl;
+  satellite = refl;
+  quality = refl;
+  day = refl;
+  timeline = refl;
+  band = refl;
+  area = refl;
+  columns = refl;
+  lines = refl;
+  number = refl;
+  total = refl;
+  first-line = refl;
+  valid-bits = refl;
+  order = refl;
+  header-length = refl;
+  gain = refl;
+  constant = refl;
+}
+
+pub shown-accepted : (s : List ℕ) → judge fine (checks s) ≡ fine → Shown (shownFile (answerOf s)) (factsOf s)
+unfolding answerOf reply
+shown-accepted s g = rw g (shown-fine (factsOf s))
+
+pub shown-at : {r q : HsdFile} {f : Facts} → r ≡ q → Shown q f → Shown r f
+shown-at e h = rw e h

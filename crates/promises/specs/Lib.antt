@@ -7,3 +7,4 @@ pub mod Calls
 pub mod Told
 pub mod Short
 pub mod Runs
+pub mod Slated

@@ -2,11 +2,13 @@
 use Prim.Native.Nat.{ℕ}
 use mathlib.Core.Path.{_≡_}
 use lib.ListN.{length}
+use lib.Ieee.{binary64, ofBits}
 use Rattle.wire.specs.Wire.{num}
 use Rattle.calendar.specs.Dates.{dayAt}
 use Rattle.header.specs.declared.Header.{Header}
 use Rattle.header.specs.Encode.{Entries, lengthFor}
 use Rattle.accept.specs.declared.Facts.{Facts}
+use Rattle.plugin.specs.declared.HsdFile.{HsdFile}
 use Rattle.tiling.specs.Lawful.{Satellite, Named}
 
 pub record Told (f : Facts) (v : Header) (e : Entries) : Type 0 where
@@ -34,3 +36,24 @@ pub record Told (f : Facts) (v : Header) (e : Entries) : Type 0 where
   pub resolution : ℕ
   pub name : Named (v .block1 .name) (f .satellite) (v .block1 .timeline) (v .block5 .band) (v .block1 .area) resolution (v .block7 .number) (v .block7 .total)
   pub day : f .day ≡ dayAt (name .y) (name .m) (name .d)
+
+-- what C is shown of an accepted file: those facts, each under its name; every NaN's pattern is nan
+pub record Shown (r : HsdFile) (f : Facts) : Type 0 where
+  pub refusal : r .refusal ≡ 0
+  pub block : r .block ≡ 0
+  pub satellite : r .satellite ≡ f .satellite
+  pub quality : r .quality ≡ f .quality
+  pub day : r .day ≡ f .day
+  pub timeline : r .timeline ≡ f .timeline
+  pub band : r .band ≡ f .band
+  pub area : r .area ≡ f .area
+  pub columns : r .columns ≡ f .columns
+  pub lines : r .lines ≡ f .lines
+  pub number : r .number ≡ f .number
+  pub total : r .total ≡ f .total
+  pub first-line : r .«first_line» ≡ f .first
+  pub valid-bits : r .«valid_bits» ≡ f .bits
+  pub order : r .order ≡ f .order
+  pub header-length : r .«header_length» ≡ f .header
+  pub gain : r .gain ≡ ofBits binary64 (f .gain)
+  pub constant : r .constant ≡ ofBits binary64 (f .constant)

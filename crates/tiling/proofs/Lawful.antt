@@ -150,7 +150,7 @@ five false false true d e f g h i j z = h refl
 five false false false true e f g h i j z = i refl
 five false false false false e f g h i j z = j z
 
-area-is : (t : List ℕ) → length t ≡ 4 → goodArea t ≡ true → Area t
+pub area-is : (t : List ℕ) → length t ≡ 4 → goodArea t ≡ true → Area t
 unfolding goodArea
 area-is (a ∷ b ∷ c ∷ d ∷ []) l e =
     let t = a ∷ b ∷ c ∷ d ∷ [] in
@@ -167,7 +167,7 @@ area-is (a ∷ b ∷ []) l e = absurd (omega arith)
 area-is (a ∷ b ∷ c ∷ []) l e = absurd (omega arith)
 area-is (a ∷ b ∷ c ∷ d ∷ x ∷ t) l e = absurd (omega arith)
 
-area-of : (t : List ℕ) → Area t → goodArea t ≡ true
+pub area-of : (t : List ℕ) → Area t → goodArea t ≡ true
 unfolding goodArea
 area-of t r =
     let f = eqs t (text "FLDK") in
@@ -200,12 +200,12 @@ any-is n (x ∷ y ∷ xs) e = go (either (eqb n x) (any n (y ∷ xs)) e) (any-is
     go (inl e) r = List·Memᴰ·head (eqb-true n x e)
     go (inr e) r = List·Memᴰ·tail (r e)
 
-timeline-is : (t : ℕ) → goodTimeline t ≡ true → Timeline t
+pub timeline-is : (t : ℕ) → goodTimeline t ≡ true → Timeline t
 timeline-is t e =
     let h = both (leb (t / 100) 23) (any (t % 100) (0 ∷ 10 ∷ 20 ∷ 30 ∷ 40 ∷ 50 ∷ [])) e in
     record { hh = t / 100; mm = t % 100; is = omega arith; hour = leb-true (t / 100) 23 (h .0); minute = any-is (t % 100) _ (h .1) }
 
-timeline-of : (t : ℕ) → Timeline t → goodTimeline t ≡ true
+pub timeline-of : (t : ℕ) → Timeline t → goodTimeline t ≡ true
 timeline-of t l = rw (l .is) (one-of (λ mm. goodTimeline (l .hh * 100 + mm) ≡ true) (l .minute) (
   each 0 (omega arith) refl,
   (each 10 (omega arith) refl, (each 20 (omega arith) refl, (each 30 (omega arith) refl, (each 40 (omega arith) refl, (each 50 (omega arith) refl, tt))))),

@@ -1,0 +1,185 @@
+-- A slate is good, and a file matches it, exactly where document 01 says so. Assumes nothing.
+use mathlib.Core.Path.{_≡_, refl, sym, _∙_}
+use mathlib.Core.Logic.{_↔_, _⊎_, ⊎-elim, inl, inr}
+use mathlib.Core.Bool.{Bool, true, false, _&&_, _||_, and-eq-true-iff}
+use Prim.Native.Nat.{ℕ, _+_, _*_, _-_, _≤_}
+use native.Mathlib.Nat.{add-comm}
+use native.Mathlib.Omega.{arith}
+use mathlib.Core.List.{List}
+use lib.Dec.{eqb, leb}
+use lib.ListN.{length}
+use denote.Ref.{now}
+use borrow.Author.Tests.{leb-true, le-leb, eqb-true, eq-eqb}
+use Rattle.wire.specs.Wire.{digits}
+use Rattle.wire.proofs.Numbers.{length-digits}
+use Rattle.calendar.specs.Shots.{goodDay, goodTimeline}
+use Rattle.format.specs.Ranges.{goodArea, goodSize, goodTotal}
+use Rattle.format.specs.Bands.{goodBand}
+use Rattle.accept.specs.declared.Facts.{Facts}
+use Rattle.slate.specs.declared.Slate.{Slate}
+use Rattle.slate.specs.Cut.{heightOf, linesTo, goodCut}
+use Rattle.slate.specs.Slates.{goodShot, goodSlate, slated, sameShot, sameCut, matching}
+use Rattle.tiling.proofs.Lawful.{timeline-is, timeline-of, area-is, area-of}
+use Rattle.rules.specs.Rules.{Ruling, fine, refused, judge, paper}
+use Rattle.rules.proofs.Judge.{exactly, each-is}
+use Rattle.accept.specs.Checks.{checks}
+use Rattle.accept.specs.Answers.{factsOf}
+use Rattle.frame.specs.Frames.{ready, placing, offering}
+use Rattle.frame.proofs.offer.Reads as offer
+use Rattle.assembly.specs.History.{isFine, bears}
+use Rattle.promises.specs.Slated.{Good, Match}
+
+both : (a b : Bool) → (a && b) ≡ true → (a ≡ true) × (b ≡ true)
+both a b = and-eq-true-iff a b .0
+
+and : {a b : Bool} → a ≡ true → b ≡ true → (a && b) ≡ true
+and {a} {b} p q = and-eq-true-iff a b .1 (p, q)
+
+within : (least n most : ℕ) → (leb least n && leb n most) ≡ true → (least ≤ n) × (n ≤ most)
+within least n most e = let h = both (leb least n) (leb n most) e in (leb-true least n (h .0), leb-true n most (h .1))
+
+between : {least n most : ℕ} → least ≤ n → n ≤ most → (leb least n && leb n most) ≡ true
+between a b = and (le-leb _ _ a) (le-leb _ _ b)
+
+either : (a b : Bool) → (a || b) ≡ true → (a ≡ true) ⊎ (b ≡ true)
+either true b e = inl refl
+either false b e = inr e
+
+or-left : (a b : Bool) → a ≡ true → (a || b) ≡ true
+or-left a b e = rw e
+
+or-right : (a b : Bool) → b ≡ true → (a || b) ≡ true
+or-right true b e = refl
+or-right false b e = e
+
+-- ---- the match
+
+module _ (s : Slate) (f : Facts) where
+  match-is : matching s f ≡ true → Match s f
+  unfolding sameCut heightOf linesTo
+  match-is e =
+      let satellite = eqb (f .satellite) (s .satellite) in
+      let day = eqb (f .day) (s .day) in
+      let timeline = eqb (f .timeline) (s .timeline) in
+      let band = eqb (f .band) (s .band) in
+      let area = eqb (f .area) (s .area) in
+      let columns = eqb (f .columns) (s .columns) in
+      let total = eqb (f .total) (s .total) in
+      let lines = eqb (f .lines) (s .lines) in
+      let first = eqb (f .first) ((f .number - 1) * s .lines + 1) in
+      let h = both (sameShot s f) (sameCut s f) e in
+      let h5 = both (satellite && day && timeline && band) area (h .0) in
+      let h4 = both (satellite && day && timeline) band (h5 .0) in
+      let h3 = both (satellite && day) timeline (h4 .0) in
+      let h2 = both satellite day (h3 .0) in
+      let c4 = both (columns && total && lines) first (h .1) in
+      let c3 = both (columns && total) lines (c4 .0) in
+      let c2 = both columns total (c3 .0) in
+      record {
+        satellite = eqb-true _ _ (h2 .0);
+        day = eqb-true _ _ (h2 .1);
+        timeline = eqb-true _ _ (h3 .1);
+        band = eqb-true _ _ (h4 .1);
+        area = eqb-true _ _ (h5 .1);
+        columns = eqb-true _ _ (c2 .0);
+        total = eqb-true _ _ (c2 .1);
+        lines = eqb-true _ _ (c3 .1);
+        first = eqb-true _ _ (c4 .1) ∙ add-comm ((f .number - 1) * s .lines) 1;
+      }
+
+  match-of : Match s f → matching s f ≡ true
+  unfolding sameCut heightOf linesTo
+  match-of m =
+      and
+      (and (and (and (and (eq-eqb _ _ (m .satellite)) (eq-eqb _ _ (m .day))) (eq-eqb _ _ (m .timeline))) (eq-eqb _ _ (m .band))) (eq-eqb _ _ (m .area)))
+      (and (and (and (eq-eqb _ _ (m .columns)) (eq-eqb _ _ (m .total))) (eq-eqb _ _ (m .lines))) (eq-eqb _ _ (m .first ∙ add-comm 1 ((f .number - 1) * s .lines))))
+
+  pub match-exactly : (matching s f ≡ true) ↔ Match s f
+  match-exactly = (match-is, match-of)
+
+-- ---- a good slate
+
+module _ (s : Slate) where
+  good-is : goodSlate s ≡ true → Good s
+  unfolding goodSlate goodCut linesTo
+  good-is e =
+      let satellite = eqb (s .satellite) 8 || eqb (s .satellite) 9 in
+      let day = goodDay (s .day) in
+      let timeline = goodTimeline (s .timeline) in
+      let band = goodBand (s .band) in
+      let area = goodArea (digits 1 4 (s .area)) in
+      let h8 = both (goodShot s && goodSize (s .columns) && goodTotal (s .total)) (goodCut s) e in
+      let h7 = both (goodShot s && goodSize (s .columns)) (goodTotal (s .total)) (h8 .0) in
+      let h6 = both (goodShot s) (goodSize (s .columns)) (h7 .0) in
+      let h5 = both (satellite && day && timeline && band) area (h6 .0) in
+      let h4 = both (satellite && day && timeline) band (h5 .0) in
+      let h3 = both (satellite && day) timeline (h4 .0) in
+      let h2 = both satellite day (h3 .0) in
+      let cut = both (leb 1 (s .lines)) (leb (s .total * s .lines) 22000) (h8 .1) in
+      record {
+        satellite = ⊎-elim (λ q. inl (eqb-true _ _ q)) (λ q. inr (eqb-true _ _ q)) (either (eqb (s .satellite) 8) (eqb (s .satellite) 9) (h2 .0));
+        first-day = within 51544 (s .day) 88068 (h2 .1) .0;
+        last-day = within 51544 (s .day) 88068 (h2 .1) .1;
+        timeline = timeline-is (s .timeline) (h3 .1);
+        some-band = within 1 (s .band) 16 (h4 .1) .0;
+        last-band = within 1 (s .band) 16 (h4 .1) .1;
+        area = area-is (digits 1 4 (s .area)) (length-digits _ _ _) (h5 .1);
+        some-columns = within 1 (s .columns) 22000 (h6 .1) .0;
+        most-columns = within 1 (s .columns) 22000 (h6 .1) .1;
+        some-total = within 1 (s .total) 99 (h7 .1) .0;
+        most-total = within 1 (s .total) 99 (h7 .1) .1;
+        some-lines = leb-true _ _ (cut .0);
+        most-lines = leb-true _ _ (cut .1);
+      }
+
+  good-of : Good s → goodSlate s ≡ true
+  unfolding goodSlate goodCut linesTo
+  good-of g =
+      and
+      (and
+      (and
+      (and
+      (and
+      (and
+      (and (⊎-elim (λ e. or-left _ (eqb (s .satellite) 9) (eq-eqb _ _ e)) (λ e. or-right (eqb (s .satellite) 8) _ (eq-eqb _ _ e)) (g .satellite)) (between (g .first-day) (g .last-day)))
+      (timeline-of (s .timeline) (g .timeline)))
+      (between (g .some-band) (g .last-band)))
+      (area-of (digits 1 4 (s .area)) (g .area)))
+      (between (g .some-columns) (g .most-columns)))
+      (between (g .some-total) (g .most-total)))
+      (and (le-leb _ _ (g .some-lines)) (le-leb _ _ (g .most-lines)))
+
+  pub good-exactly : (goodSlate s ≡ true) ↔ Good s
+  good-exactly = (good-is, good-of)
+
+-- ---- what it is that a file bears a number of a slate, and that it is placed
+
+is-fine : (r : Ruling) → isFine r ≡ true → r ≡ fine
+is-fine fine e = refl
+is-fine (refused t) e = absurd (let z : _≡_ {A = ℕ} 0 1 = cc in omega arith)
+
+module _ (s : Slate) (k : ℕ) (f : List ℕ) where
+  bears-is : bears s k f ≡ true → (judge fine (checks f) ≡ fine) × Match s (factsOf f) × (factsOf f .number ≡ k)
+  unfolding bears
+  bears-is e =
+      let h = both (isFine (judge fine (checks f)) && matching s (factsOf f)) (eqb (factsOf f .number) k) e in
+      let g = both (isFine (judge fine (checks f))) (matching s (factsOf f)) (h .0) in
+      (is-fine _ (g .0), match-exactly s (factsOf f) .0 (g .1), eqb-true _ _ (h .1))
+
+  bears-of : (judge fine (checks f) ≡ fine) × Match s (factsOf f) × (factsOf f .number ≡ k) → bears s k f ≡ true
+  unfolding bears
+  bears-of h = and (and {a = isFine (judge fine (checks f))} (rw (h .0)) (match-exactly s (factsOf f) .1 (h .1))) (eq-eqb _ _ (h .2))
+
+  pub bears-exactly : (bears s k f ≡ true) ↔ ((judge fine (checks f) ≡ fine) × Match s (factsOf f) × (factsOf f .number ≡ k))
+  bears-exactly = (bears-is, bears-of)
+
+-- a file of which an offer says nothing is wrong is accepted and matches the slate, which is good
+pub placed : (κ : _) (a : _) (r : _) (t : _) → offer.Post κ a r t → paper (r .verdict) ≡ fine
+    → Good (a .0) × (judge fine (checks (now (a .1 .1 .1 .0))) ≡ fine) × Match (a .0) (factsOf (now (a .1 .1 .1 .0)))
+unfolding offering ready slated placing
+placed κ a r t p q =
+    let f = now (a .1 .1 .1 .0) in
+    let e = sym (p .0) ∙ q in
+    let rows = offering (a .0) (a .1 .0 .marks) (length (now (a .1 .1 .0))) f in
+    let h = each-is _ (exactly rows .0 e) in
+    (good-exactly (a .0) .0 (h .0 .0), exactly (checks f) .1 (h .1 .0), match-exactly (a .0) (factsOf f) .0 (h .1 .1 .0 .0))
