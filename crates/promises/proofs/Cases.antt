@@ -5,7 +5,8 @@ use mathlib.Core.List.{List, [], _∷_}
 use Prim.Native.Nat.{ℕ, _+_}
 use native.Mathlib.Omega.{arith}
 use lib.Dec.{leb}
-use lib.Ieee.{add, mul, ofInt}
+use lib.IntN.{ℤ}
+use lib.Ieee.{Float, add, mul, ofInt}
 use lib.ListN.{length, getD}
 use Rattle.wire.specs.Wire.{span, eqs}
 use Rattle.wire.proofs.Pieces.{span-span}
@@ -13,12 +14,14 @@ use Rattle.rules.specs.Rules.{Turned, turned, fine, refused, judge, First, here
 use Rattle.rules.proofs.Judge.{exactly, each-is, holds, first-fails, first-table}
 use Rattle.calendar.specs.Dates.{dayOf}
 use Rattle.calendar.specs.Shots.{slotAt, shot, shots, slotOf, filmFrameOf}
+use Rattle.reading.specs.declared.Reading.{Reading}
+use Rattle.reading.specs.Counts.{readingOf}
 use Rattle.format.specs.Ranges.{satelliteOf}
 use Rattle.format.specs.Names.{nameFor, isDay, dateOf, goodName}
 use Rattle.header.specs.declared.Block1.{Block1}
 use Rattle.header.specs.declared.Block5.{Block5}
 use Rattle.header.specs.declared.Block7.{Block7}
-use Rattle.header.specs.Places.{orderOf, aOf, bOf, cOf, lengthOf, dataLength}
+use Rattle.header.specs.Places.{orderOf, aOf, bOf, cOf, headerLength, lengthOf, dataLength}
 use Rattle.header.specs.Values.{block1Of, block2Of, block5Of, block7Of}
 use Rattle.header.specs.Encode.{Entries}
 use Rattle.accept.specs.Checks.{sums, names, ends, blocks1to4, blocks5to7, blocks8to11, whole, checks}
@@ -26,7 +29,7 @@ use Rattle.accept.specs.Answers.{answerOf}
 use Rattle.writer.specs.Given.{lengths8, given}
 use Rattle.writer.proofs.Good.{good-is}
 use Rattle.tiling.specs.Lawful.{text}
-use Rattle.promises.specs.Cases.{Holds, name, unwritten8, before8, others, All, table}
+use Rattle.promises.specs.Cases.{Holds, header, count, date, name, slot, film, unwritten8, before8, others, All, table}
 
 -- 6,548 entries of block 8
 too-many : Holds (unwritten8 6548 (turned 4 8))
@@ -68,7 +71,24 @@ february s q e =
     (first-table (blocks1to4 s o ∷ blocks5to7 s o ∷ blocks8to11 s o (aOf s) (bOf s) (cOf s) ∷ []) (whole s o (lengthOf s) counts) [] (holds (h .0) (holds (h .1 .0) (holds (h .1 .1 .0) tt))) f) in
     rw r
 
+-- ---- what the definitions compute, the calls answer
+
+on-header : {a b c n : ℕ} → headerLength a b c ≡ n → Holds (header a b c n)
+on-header e κ x r t p ea eb ec = p ∙ (λ i. headerLength (ea i) (eb i) (ec i)) ∙ e
+
+on-count : {g k : Float} {bits n : ℕ} {r : Reading} → readingOf (record { gain = g; constant = k; bits = bits }) n ≡ r → Holds (count g k bits n r)
+on-count e κ x y t p ec en = p ∙ (λ i. readingOf (ec i) (en i)) ∙ e
+
+on-date : {y m d : ℕ} {r : Reply ℕ} → dayOf y m d ≡ r → Holds (date y m d r)
+on-date e κ x z t p ey em ed = p ∙ (λ i. dayOf (ey i) (em i) (ed i)) ∙ e
+
+on-slot : {d t : ℕ} {r : Reply ℕ} → slotOf d t ≡ r → Holds (slot d t r)
+on-slot e κ x z w p ed et = p ∙ (λ i. slotOf (ed i) (et i)) ∙ e
+
+on-film : {d₀ t₀ d t : ℕ} {r : Reply ℤ} → filmFrameOf d₀ t₀ d t ≡ r → Holds (film d₀ t₀ d t r)
+on-film e κ x z w p a b c d = p ∙ (λ i. filmFrameOf (a i) (b i) (c i) (d i)) ∙ e
+
 -- every line of the table holds
 pub every-case : All table
 unfolding add mul ofInt dayOf slotAt shot shots slotOf filmFrameOf lengths8 checked reply
-every-case = (refl, (refl, (refl, (refl, (too-many, (refl, (refl, (refl, (refl, (refl, (refl, (refl, (refl, (refl, (refl, (february, (refl, (refl, (refl, tt)))))))))))))))))))
+every-case = (on-header refl, (on-header refl, (refl, (refl, (too-many, (refl, (refl, (on-header refl, (on-count refl, (on-count refl, (on-count refl, (on-count refl, (on-count refl, (on-date refl, (on-date refl, (february, (on-slot refl, (on-film refl, (on-film refl, tt)))))))))))))))))))

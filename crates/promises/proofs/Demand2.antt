@@ -115,7 +115,7 @@ accepted-from-c {s} b rd κ a r t p i =
     let made : r .refusal ≡ 0 → Made s = λ z. tiling.accepted-exactly s b .0 (tiling.fine-accepted s (zero z)) in (
       (made, λ m. ap (λ (h : HsdFile). h .refusal) y ∙ shown-accepted s (tiling.accepted-fine s (tiling.made-accepted s m)) .refusal),
       λ z. let h = got rd (zero z) in let k = tiling.reads-back s (made z) in
-      (shown-at y (shown-accepted s (zero z)), same-told refl (h .header ∙ k .0) (h .entries ∙ k .1) (told s (made z))),
+          (shown-at y (shown-accepted s (zero z)), same-told refl (h .header ∙ k .0) (h .entries ∙ k .1) (told s (made z))),
     )
 
 -- Gain and constant travel together from block 5: what C reads of a count by the answer to an accepted file is its reading by the values that the readers give.

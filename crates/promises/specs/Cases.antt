@@ -1,4 +1,4 @@
--- The cases of document 01 that are marked P, in its order: one table, and what each line of it says.
+-- The cases of document 01 that are marked P, in its order: one table, and what each line of it says of whatever call is made with those numbers.
 use mathlib.Core.Path.{_≡_}
 use mathlib.Core.Bool.{true, false}
 use mathlib.Core.List.{List, [], _∷_}
@@ -9,18 +9,22 @@ use lib.ListN.{length}
 use Rattle.wire.specs.Wire.{span}
 use Rattle.rules.specs.Rules.{Turned, turned, Row, tables, Ruling, fine, refused, judge, Reply, says, refuses}
 use Rattle.header.specs.declared.Header.{Header}
-use Rattle.header.specs.Places.{orderOf, aOf, bOf, cOf, length8, length9, length10, headerLength, lengthOf, dataLength}
+use Rattle.header.specs.Places.{orderOf, aOf, bOf, cOf, length8, length9, length10, lengthOf, dataLength}
 use Rattle.header.specs.Values.{block2Of}
 use Rattle.header.specs.Encode.{Entries}
 use Rattle.accept.specs.Checks.{fields1, fields2, fields5, fields7, sums, ends, blocks1to4, blocks5to7, blocks8to11}
 use Rattle.accept.specs.Answers.{answerOf}
 use Rattle.writer.specs.Given.{orders, lengths8, ruled}
 use Rattle.tiling.specs.Lawful.{text}
-use Rattle.calendar.specs.Dates.{dayOf}
-use Rattle.calendar.specs.Shots.{slotOf, filmFrameOf}
+use Rattle.calendar.specs.Dates.{paperDay}
+use Rattle.calendar.specs.Shots.{paperSlot, paperFrame}
+use Rattle.calendar.proofs.day_of.Reads as day-of
+use Rattle.calendar.proofs.slot.Reads as slots
+use Rattle.calendar.proofs.frame_number.Reads as frame-number
+use Rattle.header.proofs.header_length.Reads as header-length
+use Rattle.reading.proofs.read.Reads as read
 use Rattle.reading.specs.declared.Reading.{Reading}
 use Rattle.reading.specs.declared.Reading.the-variants.{Radiance, Outside, OverRange, Uncalibrated}
-use Rattle.reading.specs.Counts.{readingOf}
 
 pub data Case : Type 0 where
   -- the entries of blocks 8, 9 and 10: the header's length
@@ -56,17 +60,17 @@ abbrev pub before8 : Header → List (List Row)
 before8 v = orders (v .block1 .order) ∷ fields1 (v .block1) ∷ fields2 (v .block2) ∷ fields5 (v .block5) ∷ fields7 (v .block7) (v .block2 .lines) ∷ []
 
 abbrev pub Holds : Case → Type 0
-Holds (header a b c n) = headerLength a b c ≡ n
+Holds (header a b c n) = (κ : _) (x : _) (r : _) (t : _) → header-length.Post κ x r t → x .0 ≡ a → x .1 .0 ≡ b → x .1 .1 .0 ≡ c → r ≡ n
 Holds (block8 a n) = length8 a ≡ n
 Holds (block9 b n) = length9 b ≡ n
 Holds (block10 c n) = length10 c ≡ n
 Holds (written8 a r) = judge fine (lengths8 a a a) ≡ r
 Holds (unwritten8 a u) = (v : Header) (e : Entries) (n : ℕ) → length (e .lines8) ≡ a → (ruled v e n ≡ fine → ⊥) × (judge fine (tables (before8 v)) ≡ fine → ruled v e n ≡ refused u)
-Holds (count g k bits n r) = readingOf (record { gain = g; constant = k; bits = bits }) n ≡ r
-Holds (date y m d r) = dayOf y m d ≡ r
+Holds (count g k bits n r) = (κ : _) (x : _) (y : _) (t : _) → read.Post κ x y t → x .0 ≡ record { gain = g; constant = k; bits = bits } → x .1 .0 ≡ n → y ≡ r
+Holds (date y m d r) = (κ : _) (x : _) (z : _) (t : _) → day-of.Post κ x z t → x .0 ≡ y → x .1 .0 ≡ m → x .1 .1 .0 ≡ d → paperDay z ≡ r
 Holds (name day u) = (s : List ℕ) → judge fine (tables (others s)) ≡ fine → span s (114 + 7) 8 ≡ day → answerOf s ≡ refuses u
-Holds (slot d t r) = slotOf d t ≡ r
-Holds (film d₀ t₀ d t r) = filmFrameOf d₀ t₀ d t ≡ r
+Holds (slot d t r) = (κ : _) (x : _) (z : _) (w : _) → slots.Post κ x z w → x .0 ≡ d → x .1 .0 ≡ t → paperSlot z ≡ r
+Holds (film d₀ t₀ d t r) = (κ : _) (x : _) (z : _) (w : _) → frame-number.Post κ x z w → x .0 ≡ d₀ → x .1 .0 ≡ t₀ → x .1 .1 .0 ≡ d → x .1 .1 .1 .0 ≡ t → paperFrame z ≡ r
 
 abbrev pub All : List Case → Type 0
 All [] = Unit
