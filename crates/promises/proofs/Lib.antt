@@ -11,3 +11,4 @@ pub mod Demand2
 pub mod Runs
 pub mod Slated
 pub mod Demand3
+pub mod FromC

@@ -2,12 +2,12 @@
 use mathlib.Core.Path.{_≡_, refl, sym, _∙_}
 use mathlib.Core.Logic.{_↔_, _⊎_, ⊎-elim, inl, inr}
 use mathlib.Core.Bool.{Bool, true, false, _&&_, _||_, and-eq-true-iff}
-use Prim.Native.Nat.{ℕ, _+_, _*_, _-_, _≤_}
+use Prim.Native.Nat.{ℕ, zero, suc, _+_, _*_, _-_, _≤_, _<_}
 use native.Mathlib.Nat.{add-comm}
 use native.Mathlib.Omega.{arith}
 use mathlib.Core.List.{List}
 use lib.Dec.{eqb, leb}
-use lib.ListN.{length}
+use lib.ListN.{length, getD}
 use denote.Ref.{now}
 use borrow.Author.Tests.{leb-true, le-leb, eqb-true, eq-eqb}
 use Rattle.wire.specs.Wire.{digits}
@@ -25,9 +25,11 @@ use Rattle.rules.proofs.Judge.{exactly, each-is}
 use Rattle.accept.specs.Checks.{checks}
 use Rattle.accept.specs.Answers.{factsOf}
 use Rattle.frame.specs.Frames.{ready, placing, offering}
+use Rattle.frame.specs.Records.{marked, tallied, tallyOf}
 use Rattle.frame.proofs.offer.Reads as offer
+use Rattle.frame.proofs.tally.Reads as tally
 use Rattle.assembly.specs.History.{isFine, bears}
-use Rattle.promises.specs.Slated.{Good, Match}
+use Rattle.promises.specs.Slated.{Good, Match, howMany}
 
 both : (a b : Bool) → (a && b) ≡ true → (a ≡ true) × (b ≡ true)
 both a b = and-eq-true-iff a b .0
@@ -183,3 +185,17 @@ placed κ a r t p q =
     let rows = offering (a .0) (a .1 .0 .marks) (length (now (a .1 .1 .0))) f in
     let h = each-is _ (exactly rows .0 e) in
     (good-exactly (a .0) .0 (h .0 .0), exactly (checks f) .1 (h .1 .0), match-exactly (a .0) (factsOf f) .0 (h .1 .1 .0 .0))
+
+-- ---- the record tells how many numbers are marked
+
+mark-at : (marks : List Bool) (k : ℕ) → k < 99 → marked marks (k + 1) ≡ getD marks k false
+unfolding marked
+mark-at marks k h = let e : k + 1 - 1 ≡ k = omega arith in rw (le-leb 1 (k + 1) (omega arith), le-leb (k + 1) 99 (omega arith), e)
+
+counted : (marks : List Bool) (k n : ℕ) → k + n ≤ 99 → tallied marks k n ≡ howMany marks (k + 1) n
+counted marks k zero h = refl
+counted marks k (suc n) h = rw (mark-at marks k (omega arith), counted marks (k + 1) n (omega arith))
+
+pub tallies : (κ : _) (a : _) (r : _) (t : _) → tally.Post κ a r t → r ≡ howMany (a .0 .marks) 1 99
+unfolding tallyOf
+tallies κ a r t p = p ∙ counted (a .0 .marks) 0 99 (omega arith)

@@ -1,10 +1,13 @@
 -- What document 01 says of a slate and of the files that match it, in its own words: nothing here is taken from the tests that the functions make.
-use Prim.Native.Nat.{ℕ, _+_, _*_, _-_, _≤_}
+use Prim.Native.Nat.{ℕ, zero, suc, _+_, _*_, _-_, _≤_}
+use mathlib.Core.Bool.{Bool, cond}
+use mathlib.Core.List.{List}
 use mathlib.Core.Path.{_≡_}
 use mathlib.Core.Logic.{_⊎_}
 use Rattle.wire.specs.Wire.{digits}
 use Rattle.accept.specs.declared.Facts.{Facts}
 use Rattle.slate.specs.declared.Slate.{Slate}
+use Rattle.frame.specs.Records.{marked}
 use Rattle.tiling.specs.Lawful.{Area, Timeline}
 
 -- good when each part is in range (day 51,544 to 88,068), L is at least 1 and N x L is at most 22,000
@@ -34,3 +37,8 @@ pub record Match (s : Slate) (f : Facts) : Type 0 where
   pub total : f .total ≡ s .total
   pub lines : f .lines ≡ s .lines
   pub first : f .first ≡ 1 + (f .number - 1) * s .lines
+
+-- how many of the n numbers from k on are marked
+abbrev pub howMany : List Bool → ℕ → ℕ → ℕ
+howMany marks k zero = 0
+howMany marks k (suc n) = cond (marked marks k) 1 0 + howMany marks (k + 1) n

@@ -226,6 +226,10 @@ band-of : (b bits resolution : ℕ) → List·Memᴰ (b, bits, resolution) bands
 unfolding Banded bandOf
 band-of b bits resolution m = one-of (λ (r : ℕ × ℕ × ℕ). Banded (r .0) (r .1) (r .2)) m (search depth 40)
 
+pub bits-of : (b bits resolution : ℕ) → List·Memᴰ (b, bits, resolution) bands → bits ≡ bandOf b .bits
+unfolding Banded
+bits-of b bits resolution m = band-of b bits resolution m .1 .0
+
 member : {A : Type 0} (z : A) (xs : List A) (i : ℕ) → i < length xs → List·Memᴰ (getD xs i z) xs
 member z [] i h = absurd (omega arith)
 member z (x ∷ xs) zero h = List·Memᴰ·head refl
