@@ -5,6 +5,7 @@ pub mod Refusals
 pub mod Demand1
 pub mod First
 pub mod Short
+pub mod Order
 pub mod Calls
 pub mod Told
 pub mod Demand2

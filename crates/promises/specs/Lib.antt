@@ -6,5 +6,6 @@ pub mod Bare
 pub mod Calls
 pub mod Told
 pub mod Short
+pub mod Order
 pub mod Runs
 pub mod Slated
