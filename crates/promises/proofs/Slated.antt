@@ -1,7 +1,7 @@
 -- A slate is good, and a file matches it, exactly where document 01 says so. Assumes nothing.
 use mathlib.Core.Path.{_≡_, refl, sym, _∙_}
 use mathlib.Core.Logic.{_↔_, _⊎_, ⊎-elim, inl, inr}
-use mathlib.Core.Bool.{Bool, true, false, _&&_, _||_, and-eq-true-iff}
+use mathlib.Core.Bool.{Bool, true, false, _&&_, _||_}
 use Prim.Native.Nat.{ℕ, zero, suc, _+_, _*_, _-_, _≤_, _<_}
 use native.Mathlib.Nat.{add-comm}
 use native.Mathlib.Omega.{arith}
@@ -19,7 +19,7 @@ use Rattle.accept.specs.declared.Facts.{Facts}
 use Rattle.slate.specs.declared.Slate.{Slate}
 use Rattle.slate.specs.Cut.{heightOf, linesTo, goodCut}
 use Rattle.slate.specs.Slates.{goodShot, goodSlate, slated, sameShot, sameCut, matching}
-use Rattle.tiling.proofs.Lawful.{timeline-is, timeline-of, area-is, area-of}
+use Rattle.tiling.proofs.Lawful.{both, and, either, or-left, or-right, timeline-is, timeline-of, area-is, area-of}
 use Rattle.rules.specs.Rules.{Ruling, fine, refused, judge, paper}
 use Rattle.rules.proofs.Judge.{exactly, each-is}
 use Rattle.accept.specs.Checks.{checks}
@@ -31,28 +31,11 @@ use Rattle.frame.proofs.tally.Reads as tally
 use Rattle.assembly.specs.History.{isFine, bears}
 use Rattle.promises.specs.Slated.{Good, Match, howMany}
 
-both : (a b : Bool) → (a && b) ≡ true → (a ≡ true) × (b ≡ true)
-both a b = and-eq-true-iff a b .0
-
-and : {a b : Bool} → a ≡ true → b ≡ true → (a && b) ≡ true
-and {a} {b} p q = and-eq-true-iff a b .1 (p, q)
-
 within : (least n most : ℕ) → (leb least n && leb n most) ≡ true → (least ≤ n) × (n ≤ most)
 within least n most e = let h = both (leb least n) (leb n most) e in (leb-true least n (h .0), leb-true n most (h .1))
 
 between : {least n most : ℕ} → least ≤ n → n ≤ most → (leb least n && leb n most) ≡ true
 between a b = and (le-leb _ _ a) (le-leb _ _ b)
-
-either : (a b : Bool) → (a || b) ≡ true → (a ≡ true) ⊎ (b ≡ true)
-either true b e = inl refl
-either false b e = inr e
-
-or-left : (a b : Bool) → a ≡ true → (a || b) ≡ true
-or-left a b e = rw e
-
-or-right : (a b : Bool) → b ≡ true → (a || b) ≡ true
-or-right true b e = refl
-or-right false b e = e
 
 -- ---- the match
 

@@ -30,20 +30,20 @@ use Rattle.tiling.specs.Lawful.{text, twoDigits, fourDigits, Satellite, 
 
 -- ---- tests
 
-both : (a b : Bool) → (a && b) ≡ true → (a ≡ true) × (b ≡ true)
+pub both : (a b : Bool) → (a && b) ≡ true → (a ≡ true) × (b ≡ true)
 both a b e = and-eq-true-iff a b .0 e
 
-and : {a b : Bool} → a ≡ true → b ≡ true → (a && b) ≡ true
+pub and : {a b : Bool} → a ≡ true → b ≡ true → (a && b) ≡ true
 and {a} {b} p q = and-eq-true-iff a b .1 (p, q)
 
-either : (a b : Bool) → (a || b) ≡ true → (a ≡ true) ⊎ (b ≡ true)
+pub either : (a b : Bool) → (a || b) ≡ true → (a ≡ true) ⊎ (b ≡ true)
 either true b e = inl refl
 either false b e = inr e
 
-or-left : (a b : Bool) → a ≡ true → (a || b) ≡ true
+pub or-left : (a b : Bool) → a ≡ true → (a || b) ≡ true
 or-left a b e = rw e
 
-or-right : (a b : Bool) → b ≡ true → (a || b) ≡ true
+pub or-right : (a b : Bool) → b ≡ true → (a || b) ≡ true
 or-right true b e = refl
 or-right false b e = e
 
