@@ -2,7 +2,7 @@
 use libc::STDOUT_FILENO;
 use reading::Mark;
 
-const FLAGS: [u8; 12] = [
+const FLAGS: [u8; 14] = [
     0x00,
     0x80,
     0x40,
@@ -13,20 +13,31 @@ const FLAGS: [u8; 12] = [
     0x02,
     0x01,
     0x55,
+    0x7f,
     0xaa,
+    0xc1,
     0xff,
 ];
 
-// Names a mark that is lit, and answers whether one was lit up to here.
+// Names a mark that is lit, or with a question mark one that is not known; answers whether one was named up to here.
 fn tell(before: bool, m: Mark, name: &[u8]) -> bool {
     match m {
         Mark::No => before,
         Mark::Yes => {
-            io::write_all(STDOUT_FILENO, b" ");
-            io::write_all(STDOUT_FILENO, name);
+            name_it(name);
+            true
+        }
+        Mark::NotKnown => {
+            name_it(name);
+            io::write_all(STDOUT_FILENO, b"?");
             true
         }
     }
+}
+
+fn name_it(name: &[u8]) {
+    io::write_all(STDOUT_FILENO, b" ");
+    io::write_all(STDOUT_FILENO, name);
 }
 
 fn show(flag: u8) {
@@ -56,8 +67,15 @@ fn show(flag: u8) {
     io::write_all(STDOUT_FILENO, b"\n");
 }
 
-pub(crate) fn run() {
-    for i in 0..12 {
+fn run_flags() {
+    for i in 0..14 {
         show(FLAGS[i]);
     }
+}
+
+pub(crate) fn run() {
+    run_flags();
+    // in eclipse is lit, and so is the bit that disowns it
+    io::write_all(STDOUT_FILENO, b"the artist's hour, ");
+    show(0x81);
 }

@@ -4,7 +4,7 @@ ghost use Prim.Native.Nat.{_^_};
 ghost use lib.Dec.{leb};
 ghost use lib.Ieee.{ofBits, binary64};
 ghost use Rattle.reading.specs.Counts.{ifFinite, readingOf, calibrationOf};
-ghost use Rattle.reading.specs.Quality.{markOf, marksOf};
+ghost use Rattle.reading.specs.Quality.{markOf, litMarks, marksOf};
 
 // Gain and constant travel together from block 5, with the band's valid bits.
 pub struct Calibration {
@@ -90,6 +90,7 @@ pub fn calibration_of(gain: u64, constant: u64, bits: u16) -> Calibration
 pub enum Mark {
     No,
     Yes,
+    NotKnown,
 }
 
 // The marks of quality flag 1, the highest bit first.
@@ -118,9 +119,9 @@ fn mark_of(bit: u8) -> Mark
     if bit == 0 { Mark::No } else { Mark::Yes }
 }
 
-// Quality flag 1, each mark as it stands in the byte.
-pub fn marks_of(flag: u8) -> Marks
-    ensures { λ r. ⌜ r ≡ marksOf flag ⌝ }
+// Each mark as it stands in the byte.
+fn lit_marks(flag: u8) -> Marks
+    ensures { λ r. ⌜ r ≡ litMarks flag ⌝ }
 {
     Marks {
         invalid: mark_of(flag / 128 % 2),
@@ -132,4 +133,23 @@ pub fn marks_of(flag: u8) -> Marks
         solar_calibration: mark_of(flag / 2 % 2),
         eclipse: mark_of(flag % 2),
     }
+}
+
+// Quality flag 1: with its top bit set it is not valid, and the other marks are not known.
+pub fn marks_of(flag: u8) -> Marks
+    ensures { λ r. ⌜ r ≡ marksOf flag ⌝ }
+{
+    if flag / 128 % 2 == 1 {
+        return Marks {
+            invalid: Mark::Yes,
+            sun: Mark::NotKnown,
+            moon: Mark::NotKnown,
+            test: Mark::NotKnown,
+            manoeuvre: Mark::NotKnown,
+            unloading: Mark::NotKnown,
+            solar_calibration: Mark::NotKnown,
+            eclipse: Mark::NotKnown,
+        };
+    }
+    lit_marks(flag)
 }

@@ -1,39 +1,17 @@
--- `marks_of`: mark by mark.
-use Rattle.reading.specs.Quality.{marksOf}
+-- `marks_of`: the flag that is not valid, and the one that is.
 use borrow.Author.Needs.{needs}
+use borrow.Author.Tests.{eq-eqb, ne-eqb}
+use Rattle.reading.specs.Quality.{marksOf}
 use Rattle.reading.proofs.marks_of.Statement.{statement}
 use Rattle.reading.proofs.marks_of.Tie as tie
 
 returns : tie.Need-returns
 unfolding marksOf
-returns c =
-    let b7 = c .before in
-    let b6 = b7 .before in
-    let b5 = b6 .before in
-    let b4 = b5 .before in
-    let b3 = b4 .before in
-    let b2 = b3 .before in
-    λ i. record {
-      invalid = b2 .before .mark-of .ensures i;
-      sun = b2 .mark-of2 .ensures i;
-      moon = b3 .mark-of3 .ensures i;
-      test = b4 .mark-of4 .ensures i;
-      manoeuvre = b5 .mark-of5 .ensures i;
-      unloading = b6 .mark-of6 .ensures i;
-      «solar_calibration» = b7 .mark-of7 .ensures i;
-      eclipse = c .mark-of8 .ensures i;
-    }
+returns c = rw (eq-eqb _ _ (c .if1 .taken))
+
+returns-2 : tie.Need-returns-2
+unfolding marksOf
+returns-2 c = rw (ne-eqb _ _ (c .before .if1 .left)) (c .lit-marks .ensures)
 
 pub marks-of-spec : {M : Type 1} → statement M
-marks-of-spec =
-    tie.close
-    (tie.spec
-    (λ c κs. search needs)
-    (λ c κs. search needs)
-    (λ c κs. search needs)
-    (λ c κs. search needs)
-    (λ c κs. search needs)
-    (λ c κs. search needs)
-    (λ c κs. search needs)
-    (λ c κs. search needs)
-    returns)
+marks-of-spec = tie.close (tie.spec returns (λ c κs. search needs) returns-2)
