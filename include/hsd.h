@@ -57,6 +57,13 @@ enum {
     HSD_UNCALIBRATED = 4  /* gain and constant give no finite number */
 };
 
+/* What quality flag 1 says of one thing. */
+enum {
+    HSD_NO = 0,
+    HSD_YES = 1,
+    HSD_NOT_KNOWN = 2 /* the flag is not valid: neither yes nor no */
+};
+
 /* How many marks a record has, whatever the slate. */
 enum { HSD_MARKS = 99 };
 
@@ -69,7 +76,7 @@ typedef struct HsdFile {
     uint8_t refusal;        /* HSD_FINE, or HSD_SHORT to HSD_TAIL */
     uint8_t block;          /* of a refusal: 1 to 11, or 12 for the counts */
     uint8_t satellite;      /* 8 or 9 */
-    uint8_t quality;        /* quality flag 1, as it stands in the file */
+    uint8_t quality;        /* quality flag 1, as it stands in the file; hsd_quality says what it means */
     uint32_t day;           /* Modified Julian Day of the name's date: 51,544 is 2000-01-01 */
     uint16_t timeline;      /* hhmm as a number: 200 is 02:00 */
     uint16_t band;          /* 1 to 16 */
@@ -102,6 +109,23 @@ HsdReading hsd_reading(HsdFile file, uint16_t count);
 
 /* The same with these given one by one: gain times count, rounded once, plus constant, rounded once. */
 HsdReading hsd_read_count(double gain, double constant, uint16_t valid_bits, uint16_t count);
+
+/* What quality flag 1 says: HSD_NO, HSD_YES or HSD_NOT_KNOWN each, the highest bit first. With the highest bit set the flag
+ * is not valid: invalid is HSD_YES and every other one HSD_NOT_KNOWN. With it clear each is yes or no as its bit stands. */
+typedef struct HsdQuality {
+    uint8_t invalid;           /* the flag is not valid; always HSD_NO or HSD_YES */
+    uint8_t sun;               /* the sun may have lessened the quality */
+    uint8_t moon;              /* the moon may have lessened the quality */
+    uint8_t test;              /* the satellite is under test */
+    uint8_t manoeuvre;         /* the orbit is being corrected */
+    uint8_t unloading;         /* momentum is being unloaded */
+    uint8_t solar_calibration; /* the sun is looked at for calibration */
+    uint8_t eclipse;           /* the satellite is in eclipse */
+} HsdQuality;
+
+/* The marks of quality flag 1: give the quality of a file that hsd_accept has accepted. (That of a refused one is 0, like
+ * all else in its answer, and means nothing.) */
+HsdQuality hsd_quality(uint8_t quality);
 
 /* A shot's number on the film. */
 typedef struct HsdFrameNumber {

@@ -33,6 +33,16 @@ AT(HsdReading, radiance, 0, 8);
 AT(HsdReading, kind, 8, 1);
 WHOLE(HsdReading, 16, 8);
 
+AT(HsdQuality, invalid, 0, 1);
+AT(HsdQuality, sun, 1, 1);
+AT(HsdQuality, moon, 2, 1);
+AT(HsdQuality, test, 3, 1);
+AT(HsdQuality, manoeuvre, 4, 1);
+AT(HsdQuality, unloading, 5, 1);
+AT(HsdQuality, solar_calibration, 6, 1);
+AT(HsdQuality, eclipse, 7, 1);
+WHOLE(HsdQuality, 8, 1);
+
 AT(HsdFrameNumber, refusal, 0, 1);
 AT(HsdFrameNumber, block, 1, 1);
 AT(HsdFrameNumber, number, 8, 8);

@@ -1,4 +1,4 @@
-/* The functions on plain numbers, from C: readings, film frame numbers, days, valid bits. */
+/* The functions on plain numbers, from C: readings, marks of quality, film frame numbers, days, valid bits. */
 #include <math.h>
 #include <string.h>
 
@@ -26,6 +26,42 @@ static void check_readings(void)
     CHECK(reads(hsd_read_count(1, 0, 15, 32768), HSD_OVER_RANGE, 0));
     CHECK(reads(hsd_read_count(1, 0, 16, 65533), HSD_RADIANCE, 65533));
     CHECK(reads(hsd_read_count(1, 0, 65535, 65533), HSD_RADIANCE, 65533));
+}
+
+/* The eight marks, the highest bit's first. */
+static bool marks(HsdQuality given, const uint8_t wanted[8])
+{
+    const uint8_t told[] = {given.invalid,   given.sun,       given.moon,              given.test,
+                            given.manoeuvre, given.unloading, given.solar_calibration, given.eclipse};
+    return memcmp(told, wanted, sizeof told) == 0;
+}
+
+/* A byte with its top bit set disowns every mark but the first. */
+static uint8_t mark(unsigned quality, unsigned place)
+{
+    if (place > 0 && quality > 127)
+        return HSD_NOT_KNOWN;
+    return quality << place & 128 ? HSD_YES : HSD_NO;
+}
+
+static void check_quality(void)
+{
+    for (unsigned quality = 0; quality < 256; quality++) {
+        uint8_t wanted[8];
+        for (unsigned place = 0; place < 8; place++)
+            wanted[place] = mark(quality, place);
+        CHECK(marks(hsd_quality((uint8_t)quality), wanted));
+    }
+}
+
+/* The stereo artist skipped a good hour: in eclipse was lit, and so was the bit that says that the flag is not valid. */
+static void check_artists_hour(void)
+{
+    HsdQuality hour = hsd_quality(0x81);
+    CHECK(hour.invalid == HSD_YES);
+    CHECK(hour.eclipse == HSD_NOT_KNOWN);
+    CHECK(hsd_quality(0x01).invalid == HSD_NO);
+    CHECK(hsd_quality(0x01).eclipse == HSD_YES);
 }
 
 static bool numbers(HsdFrameNumber given, uint8_t refusal, int64_t number)
@@ -82,6 +118,8 @@ static void check_valid_bits(void)
 int main(void)
 {
     check_readings();
+    check_quality();
+    check_artists_hour();
     check_frame_numbers();
     check_days();
     check_valid_bits();

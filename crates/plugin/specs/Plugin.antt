@@ -9,8 +9,12 @@ use Rattle.accept.specs.Answers.{calibrationIn}
 use Rattle.reading.specs.declared.Calibration.{Calibration}
 use Rattle.reading.specs.declared.Reading.{Reading}
 use Rattle.reading.specs.declared.Reading.the-variants.{Radiance, ErrorPixel, Outside, OverRange, Uncalibrated}
+use Rattle.reading.specs.declared.Mark.{Mark}
+use Rattle.reading.specs.declared.Mark.the-variants.{No, Yes, NotKnown}
+use Rattle.reading.specs.declared.Marks.{Marks}
 use Rattle.plugin.specs.declared.HsdFile.{HsdFile}
 use Rattle.plugin.specs.declared.HsdReading.{HsdReading}
+use Rattle.plugin.specs.declared.HsdQuality.{HsdQuality}
 use Rattle.plugin.specs.declared.HsdFrameNumber.{HsdFrameNumber}
 
 abbrev zero : Float
@@ -80,6 +84,24 @@ shownReading ErrorPixel = noRadiance 1
 shownReading Outside = noRadiance 2
 shownReading OverRange = noRadiance 3
 shownReading Uncalibrated = noRadiance 4
+
+abbrev pub shownMark : Mark → ℕ
+shownMark No = 0
+shownMark Yes = 1
+shownMark NotKnown = 2
+
+-- each mark under its own name
+unfoldable pub shownMarks : Marks → HsdQuality
+shownMarks m = record {
+  invalid = shownMark (m .invalid);
+  sun = shownMark (m .sun);
+  moon = shownMark (m .moon);
+  test = shownMark (m .test);
+  manoeuvre = shownMark (m .manoeuvre);
+  unloading = shownMark (m .unloading);
+  «solar_calibration» = shownMark (m .«solar_calibration»);
+  eclipse = shownMark (m .eclipse);
+}
 
 unfoldable pub shownFrame : Reply ℤ → HsdFrameNumber
 shownFrame (says n) = record { refusal = 0; block = 0; number = n }

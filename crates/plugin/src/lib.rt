@@ -2,15 +2,17 @@
 use accept::Answer;
 use calendar::FilmFrame;
 use reading::Calibration;
+use reading::Mark;
 use reading::Reading;
 ghost use mathlib.Core.Path.{_≡_};
 ghost use Rattle.accept.specs.Answers.{answerOf};
 ghost use Rattle.calendar.specs.Dates.{dayOf};
 ghost use Rattle.calendar.specs.Shots.{filmFrameOf};
 ghost use Rattle.reading.specs.Counts.{readingOf};
+ghost use Rattle.reading.specs.Quality.{marksOf};
 ghost use Rattle.format.specs.Bands.{bandOf};
 ghost use Rattle.format.specs.Names.{dayOr0};
-ghost use Rattle.plugin.specs.Plugin.{refusedFile, shownFile, calibrated, calibrationC, noRadiance, shownReading, shownFrame};
+ghost use Rattle.plugin.specs.Plugin.{refusedFile, shownFile, calibrated, calibrationC, noRadiance, shownReading, shownMark, shownMarks, shownFrame};
 
 // refusal is 0 for an accepted file, and everything after block is 0 for a refused one.
 #[repr(C)]
@@ -143,6 +145,54 @@ fn no_radiance(kind: u8) -> HsdReading
     HsdReading {
         radiance: 0.0,
         kind,
+    }
+}
+
+// The marks of quality flag 1, each 0 no, 1 yes or 2 not known.
+#[repr(C)]
+pub struct HsdQuality {
+    pub invalid: u8,
+    pub sun: u8,
+    pub moon: u8,
+    pub test: u8,
+    pub manoeuvre: u8,
+    pub unloading: u8,
+    pub solar_calibration: u8,
+    pub eclipse: u8,
+}
+
+#[no_mangle]
+pub extern "C" fn hsd_quality(quality: u8) -> HsdQuality
+    ensures { λ r. ⌜ r ≡ shownMarks (marksOf quality) ⌝ }
+{
+    let m = reading::marks_of(quality);
+    let invalid = m.invalid;
+    let sun = m.sun;
+    let moon = m.moon;
+    let test = m.test;
+    let manoeuvre = m.manoeuvre;
+    let unloading = m.unloading;
+    let solar_calibration = m.solar_calibration;
+    let eclipse = m.eclipse;
+    HsdQuality {
+        invalid: shown_mark(invalid),
+        sun: shown_mark(sun),
+        moon: shown_mark(moon),
+        test: shown_mark(test),
+        manoeuvre: shown_mark(manoeuvre),
+        unloading: shown_mark(unloading),
+        solar_calibration: shown_mark(solar_calibration),
+        eclipse: shown_mark(eclipse),
+    }
+}
+
+fn shown_mark(mark: Mark) -> u8
+    ensures { λ r. ⌜ r ≡ shownMark mark ⌝ }
+{
+    match mark {
+        Mark::No => 0,
+        Mark::Yes => 1,
+        Mark::NotKnown => 2,
     }
 }
 
