@@ -13,3 +13,4 @@ pub mod Runs
 pub mod Slated
 pub mod Demand3
 pub mod FromC
+pub mod Quality

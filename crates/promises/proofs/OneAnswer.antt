@@ -89,6 +89,7 @@ use Rattle.frame.proofs.line_of.Reads as line-of
 use Rattle.plugin.proofs.hsd_accept.Reads as hsd-accept
 use Rattle.plugin.proofs.hsd_read_count.Reads as hsd-read-count
 use Rattle.plugin.proofs.hsd_reading.Reads as hsd-reading
+use Rattle.plugin.proofs.hsd_quality.Reads as hsd-quality
 use Rattle.plugin.proofs.hsd_frame_number.Reads as hsd-frame-number
 use Rattle.plugin.proofs.hsd_day.Reads as hsd-day
 use Rattle.plugin.proofs.hsd_valid_bits.Reads as hsd-valid-bits
@@ -363,6 +364,9 @@ hsd-read-count-one κ a x y s t p q = p ∙ sym q
 
 pub hsd-reading-one : One (λ κ x s. x) hsd-reading.Post
 hsd-reading-one κ a x y s t p q = p ∙ sym q
+
+pub hsd-quality-one : One (λ κ x s. x) hsd-quality.Post
+hsd-quality-one κ a x y s t p q = p ∙ sym q
 
 pub hsd-frame-number-one : One (λ κ x s. x) hsd-frame-number.Post
 hsd-frame-number-one κ a x y s t p q = p ∙ sym q

@@ -9,3 +9,4 @@ pub mod Short
 pub mod Order
 pub mod Runs
 pub mod Slated
+pub mod Quality
