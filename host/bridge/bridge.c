@@ -1,9 +1,12 @@
 /* The proved library as a server on standard input and output, so that a test in another language, or on
    another processor, can ask it. A request is a length, eight bytes with the lowest first, and so many bytes;
-   the answer is an HsdFile as it stands in memory. With the length's top bit set the answer is instead how many
-   nanoseconds hsd_accept takes on those bytes, as a double. With only the next bit set the request is a History,
-   and the answer what each of its steps answers. Built with the kit's own compiler, which has no headers: what is
-   used of C is declared here. */
+   the answer is an HsdFile as it stands in memory. With only the length's top bit set the answer is instead how
+   many nanoseconds hsd_accept takes on those bytes, as a double. With only the next bit set the request is a
+   History, and the answer what each of its steps answers. With both set the bytes begin with the number of a
+   question, eight bytes with the lowest first, and the rest is the question's own:
+     0  one byte, quality flag 1; the answer is its HsdQuality as it stands in memory.
+   A question of another number or another length ends the bridge with status 1. Built with the kit's own
+   compiler, which has no headers: what is used of C is declared here. */
 typedef unsigned char u8;
 typedef unsigned short u16;
 typedef unsigned int u32;
@@ -22,6 +25,10 @@ typedef struct HsdFile {
     double gain, constant;
 } HsdFile;
 
+typedef struct HsdQuality {
+    u8 invalid, sun, moon, test, manoeuvre, unloading, solar_calibration, eclipse;
+} HsdQuality;
+
 typedef struct HsdSlate {
     u8 satellite, total;
     u16 timeline, band, columns, lines;
@@ -33,6 +40,7 @@ typedef struct HsdAnswer {
 } HsdAnswer;
 
 HsdFile hsd_accept(const u8 *file, u64 length);
+HsdQuality hsd_quality(u8 quality);
 HsdAnswer hsd_open(HsdSlate slate, u8 *marks, u64 marks_length, u16 *frame, u64 frame_length);
 HsdAnswer hsd_offer(HsdSlate slate, u8 *marks, u64 marks_length, u16 *frame, u64 frame_length, const u8 *file,
                     u64 file_length);
@@ -225,9 +233,23 @@ static void play(History *h)
     flush();
 }
 
+/* Questions have numbers of their own: the length's two top bits have no more kinds to give. */
+static void reply(const u8 *request, u64 length)
+{
+    enum { QUALITY };
+    u64 question;
+    if (length < sizeof question)
+        exit(1);
+    memcpy(&question, request, sizeof question);
+    if (question != QUALITY || length != sizeof question + 1)
+        exit(1);
+    HsdQuality told = hsd_quality(request[sizeof question]);
+    answer(&told, sizeof told);
+}
+
 int main(void)
 {
-    enum { FILE, HISTORY, TIMED };
+    enum { FILE, HISTORY, TIMED, ASK };
     void *request = 0;
     u64 length;
     while (read_all(&length, 8)) {
@@ -236,7 +258,9 @@ int main(void)
         request = room(request, length);
         if (!read_all(request, length))
             return 1;
-        if (kind == HISTORY)
+        if (kind == ASK)
+            reply(request, length);
+        else if (kind == HISTORY)
             play(request);
         else
             accepted(request, length, kind == TIMED);

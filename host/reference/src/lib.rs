@@ -1,6 +1,6 @@
-//! A second opinion on which satellite files are accepted, which headers are read and written and
-//! what frames show, from document 01 alone, and the inputs on which it is compared with the proved
-//! library.
+//! A second opinion on which satellite files are accepted, what their quality flag says, which headers
+//! are read and written and what frames show, from documents 01 and 02 alone, and the inputs on which
+//! it is compared with the proved library.
 
 pub mod accept;
 pub mod assemble;
@@ -11,6 +11,7 @@ pub mod images;
 pub mod make;
 pub mod mix;
 pub mod proved;
+pub mod quality;
 pub mod random;
 pub mod readers;
 pub mod takes;

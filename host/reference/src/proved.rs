@@ -1,5 +1,5 @@
-//! The proved library's acceptance and assembly, asked over the bridge, and the comparison of an
-//! acceptance with the reference's.
+//! The proved library's acceptance, marks and assembly, asked over the bridge, and the comparison of
+//! an acceptance with the reference's.
 
 use std::io::{self, BufReader, BufWriter, Read, Write};
 use std::process::{Child, ChildStdin, ChildStdout, Command, Stdio};
@@ -89,6 +89,13 @@ impl Requests {
         self.0.flush()
     }
 
+    /// Asks what quality flag 1 says, question 0.
+    pub fn ask_quality(&mut self, flag: u8) -> io::Result<()> {
+        self.0.write_all(&(9_u64 | 3 << 62).to_le_bytes())?;
+        self.0.write_all(&0_u64.to_le_bytes())?;
+        self.0.write_all(&[flag])
+    }
+
     /// No more requests: the bridge gives its last answers and ends.
     pub fn end(mut self) -> io::Result<()> {
         self.0.flush()
@@ -125,6 +132,13 @@ impl Answers {
         let mut b = [0; 8];
         self.from.read_exact(&mut b)?;
         Ok(f64::from_le_bytes(b))
+    }
+
+    /// The members of an `HsdQuality`, in order.
+    pub fn next_quality(&mut self) -> io::Result<[u8; 8]> {
+        let mut b = [0; 8];
+        self.from.read_exact(&mut b)?;
+        Ok(b)
     }
 
     /// So many bytes of a history's answer.

@@ -1,5 +1,6 @@
 //! Writes the files on which the command is tried, into a folder, with what it must say of them: good ones, one for
-//! every rule that is broken, and the segments of a small frame with its pictures. Everything comes from document 01.
+//! every rule that is broken, one for every quality flag, and the segments of a small frame with its pictures. Everything
+//! comes from documents 01 and 02.
 
 use std::fs;
 use std::path::{Path, PathBuf};
@@ -7,6 +8,7 @@ use std::path::{Path, PathBuf};
 use reference::accept;
 use reference::breach::{breaches, recipe};
 use reference::make::{Recipe, Sample};
+use reference::quality::{marks, NAMES};
 use reference::random::Random;
 
 const COLUMNS: u64 = 64;
@@ -21,6 +23,7 @@ fn main() {
     write_good(&folder, &mut random);
     write_refused(&folder, &mut random);
     write_frame(&folder, &mut random);
+    write_quality(&folder, &mut random);
 }
 
 fn write(folder: &Path, name: &str, bytes: &[u8]) {
@@ -69,6 +72,29 @@ fn write_refused(folder: &Path, random: &mut Random) {
         }
     }
     write(folder, "refused.lines", lines.as_bytes());
+}
+
+/// A good file for every quality flag, in byte orders that alternate, and the lines that `quality` must have of them.
+fn write_quality(folder: &Path, random: &mut Random) {
+    let mut lines = String::new();
+    for flag in 0..=u8::MAX {
+        let mut sample = Sample::make(
+            &Recipe {
+                order: u64::from(flag % 2),
+                ..Recipe::plain()
+            },
+            random,
+        );
+        sample.put(1, 78, 1, u64::from(flag));
+        let facts = accept(&sample.bytes).expect("any flag is accepted");
+        assert_eq!(facts.quality, flag);
+        let name = format!("quality-{flag:02x}");
+        write(folder, &name, &sample.bytes);
+        let shown = NAMES.iter().zip(marks(flag));
+        let shown: Vec<String> = shown.map(|(n, m)| format!("{n}={}", m.word())).collect();
+        lines += &format!("{name}: {}\n", shown.join(" "));
+    }
+    write(folder, "quality.lines", lines.as_bytes());
 }
 
 fn segment(number: u64, order: u64) -> Recipe {
