@@ -14,6 +14,7 @@ enum { GOOD = 0, REFUSED = 1, UNUSABLE = 2, UNWRITTEN = 3 };
 
 /* The subcommands: words[0] is the subcommand's own name. */
 int list(int count, char **words);
+int quality(int count, char **words);
 int frame(int count, char **words);
 int reading(int count, char **words);
 
@@ -26,6 +27,9 @@ typedef struct File {
 /* Reads all of a file, and complains of one that cannot be read, or that changes meanwhile. */
 bool open_file(const char *name, File *file);
 void close_file(File *file);
+
+/* Judges each file that the words name and has a line said about it, of NULL where it cannot be read; the worst status. */
+int each_file(int count, char **words, void (*say_line)(const char *name, const HsdFile *found));
 
 /* Whether nothing that is read is written to as well, by the output (NULL for none) or by what the command says; else complains. */
 bool spares_inputs(const char *output, int count, char **names);
@@ -56,6 +60,7 @@ bool write_picture(const char *name, Picture picture);
 
 /* Standard output, at once; one that cannot be written to ends the command. */
 void say(const char *format, ...) __attribute__((format(printf, 1, 2)));
+void say_refused(const char *name, uint8_t refusal, uint8_t block);
 const char *refusal_name(uint8_t refusal);
 
 /* Standard error. */

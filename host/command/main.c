@@ -9,6 +9,7 @@
 
 static const char overview[] =
     "panulimbe list FILE..                                 one line about each file\n"
+    "panulimbe quality FILE..                              what quality flag 1 of each file says\n"
     "panulimbe frame --slate SLATE -o PICTURE FILE..       a frame put together from its segments\n"
     "panulimbe reading FILE LINE COLUMN                    what one count reads as\n"
     "\n"
@@ -28,6 +29,19 @@ static const char list_help[] =
     "\n"
     "Exit status: 0 all are good; 1 some file was refused; 2 wrong usage, or some file cannot be read or\n"
     "changed meanwhile; 3 standard output cannot be written.\n";
+
+static const char quality_help[] =
+    "panulimbe quality FILE..\n"
+    "\n"
+    "Prints one line about each file, in the order given: its name, then what quality flag 1 says, each mark\n"
+    "as name=yes, no or unknown:\n"
+    "  NAME: invalid=no sun=no moon=yes test=no manoeuvre=no unloading=no solar_calibration=no eclipse=no\n"
+    "With invalid=yes the flag is not valid, and the other seven are unknown: neither yes nor no. For a refused\n"
+    "file the line says why, as 'NAME: refused 1 SHORT, block 1'. One that cannot be read, or changed while\n"
+    "it was read, has no line; standard error says which and why.\n"
+    "\n"
+    "Exit status: 0 all are good, whatever their marks; 1 some file was refused; 2 wrong usage, or some file\n"
+    "cannot be read or changed meanwhile; 3 standard output cannot be written.\n";
 
 static const char frame_help[] =
     "panulimbe frame --slate SLATE -o PICTURE [--leader COUNT] [--progress] FILE..\n"
@@ -59,7 +73,12 @@ static const char reading_help[] =
 static const struct {
     const char *name, *help;
     int (*run)(int count, char **words);
-} subcommands[] = {{"list", list_help, list}, {"frame", frame_help, frame}, {"reading", reading_help, reading}};
+} subcommands[] = {
+    {"list", list_help, list},
+    {"quality", quality_help, quality},
+    {"frame", frame_help, frame},
+    {"reading", reading_help, reading},
+};
 
 /* A standard file that is closed is held by what can be neither read nor written, so that no other file takes its number. */
 static void hold_standard_files(void)

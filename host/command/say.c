@@ -64,6 +64,11 @@ const char *refusal_name(uint8_t refusal)
     }
 }
 
+void say_refused(const char *name, uint8_t refusal, uint8_t block)
+{
+    say("%s: refused %u %s, block %u\n", shown(name), refusal, refusal_name(refusal), block);
+}
+
 void complain(const char *about, const char *what)
 {
     fprintf(stderr, "panulimbe: %s: %s\n", shown(about), what);
