@@ -111,7 +111,8 @@ HsdReading hsd_reading(HsdFile file, uint16_t count);
 HsdReading hsd_read_count(double gain, double constant, uint16_t valid_bits, uint16_t count);
 
 /* What quality flag 1 says: HSD_NO, HSD_YES or HSD_NOT_KNOWN each, the highest bit first. With the highest bit set the flag
- * is not valid: invalid is HSD_YES and every other one HSD_NOT_KNOWN. With it clear each is yes or no as its bit stands. */
+ * is not valid: invalid is HSD_YES and every other one HSD_NOT_KNOWN. With it clear each is yes or no as its bit stands.
+ * Compare with HSD_YES or HSD_NO: HSD_NOT_KNOWN is neither, and a bare if (q.eclipse) would take it for yes. */
 typedef struct HsdQuality {
     uint8_t invalid;           /* the flag is not valid; always HSD_NO or HSD_YES */
     uint8_t sun;               /* the sun may have lessened the quality */
