@@ -45,7 +45,8 @@ enum {
     HSD_STRIP = 14,      /* the frame is not exactly of the slate's size */
     HSD_OTHER_SHOT = 15, /* a good file, but not one of the slate's */
     HSD_ALREADY = 16,    /* a segment with its number is in */
-    HSD_ROOM = 17        /* the output is too short; no function here gives it */
+    HSD_ROOM = 17,       /* the output is too short for the reel, or for its trailer */
+    HSD_REEL = 18        /* bytes that are no reel, or a list of files that has none */
 };
 
 /* What a count reads as. */
@@ -181,6 +182,53 @@ HsdAnswer hsd_offer(HsdSlate slate, uint8_t *marks, size_t marks_length, uint16_
  * than a line, or an out shorter than a line. */
 size_t hsd_line(HsdSlate slate, const uint8_t *marks, size_t marks_length, const uint16_t *frame, size_t frame_length,
                 const uint16_t *leader, size_t leader_length, uint16_t line, uint16_t *out, size_t out_length);
+
+/* A reel is 1 to 255 whole files end to end and then a trailer, all little-endian: for each file its offset and length (4
+ * bytes each), the number of files (1 byte), the offset of the trailer's first byte (4 bytes), and the letters REEL. The
+ * entries tile the reel from 0 to the trailer, in order, each part is an accepted file, and a reel is smaller than 2 to the
+ * 32 bytes. A list of files has one reel. */
+
+typedef struct HsdReel {
+    uint8_t refusal; /* HSD_FINE; HSD_REEL, told before any file is looked at; or the first refused file's own */
+    uint8_t block;   /* of a file's refusal; else 0 */
+    uint16_t files;  /* how many, 1 to 255 */
+} HsdReel;
+
+/* Opens a reel: judges the trailer, and then each file. It reads the headers and no count. */
+HsdReel hsd_reel_open(const uint8_t *reel, size_t reel_length);
+
+/* Where a file stands in a reel, in bytes. */
+typedef struct HsdPart {
+    uint32_t offset;
+    uint32_t length;
+} HsdPart;
+
+/* The file of a number, counted from 1: what its entry says, if that lies wholly in the reel, and else 0 and 0. In a reel that
+ * hsd_reel_open has opened these are its files, 1 to `files`; of other bytes it says no more than what stands in the entry.
+ * So which file of a refused reel is at fault can be found (HSD_REEL itself means that there are no files to speak of):
+ *
+ *   HsdReel answer = hsd_reel_open(reel, reel_length);
+ *   for (uint16_t number = 1; answer.refusal && answer.refusal != HSD_REEL; number++) {
+ *       HsdPart part = hsd_reel_part(reel, reel_length, number);
+ *       if (hsd_accept(reel + part.offset, part.length).refusal)
+ *           return number;
+ *   } */
+HsdPart hsd_reel_part(const uint8_t *reel, size_t reel_length, uint16_t number);
+
+/* How many bytes a trailer of so many files has, or 0 if no reel has so many. */
+size_t hsd_reel_trailer(size_t files);
+
+/* Writes the reel of files that stand end to end, given their lengths, to the front of out: HSD_REEL (no files or more than
+ * 255, lengths that do not add up to files_length, or a reel of 2 to the 32 bytes or more), the first refused file's own
+ * refusal, HSD_ROOM (out is shorter than files_length and the trailer), or fine. lengths_length counts lengths, not bytes; the
+ * pointer to them is aligned for uint32_t. What stands in out after the reel stays as it was. */
+HsdAnswer hsd_reel_write(const uint8_t *files, size_t files_length, const uint32_t *lengths, size_t lengths_length,
+                         uint8_t *out, size_t out_length);
+
+/* The same with the trailer alone, which goes to the front of out: for files that already stand where the reel is to be, with
+ * out right after them. */
+HsdAnswer hsd_reel_seal(const uint8_t *files, size_t files_length, const uint32_t *lengths, size_t lengths_length,
+                        uint8_t *out, size_t out_length);
 
 #ifdef __cplusplus
 }

@@ -3,7 +3,7 @@ use Prim.Native.Nat.{ℕ}
 use mathlib.Core.Bool.{false}
 use lib.IntN.{ℤ, pos}
 use lib.Ieee.{Float, fin}
-use Rattle.rules.specs.Rules.{turned, Reply, says, refuses}
+use Rattle.rules.specs.Rules.{turned, Ruling, fine, refused, Reply, says, refuses}
 use Rattle.accept.specs.declared.Facts.{Facts}
 use Rattle.accept.specs.Answers.{calibrationIn}
 use Rattle.reading.specs.declared.Calibration.{Calibration}
@@ -12,10 +12,16 @@ use Rattle.reading.specs.declared.Reading.the-variants.{Radiance, ErrorPixel, O
 use Rattle.reading.specs.declared.Mark.{Mark}
 use Rattle.reading.specs.declared.Mark.the-variants.{No, Yes, NotKnown}
 use Rattle.reading.specs.declared.Marks.{Marks}
+use Rattle.plugin.specs.declared.HsdAnswer.{HsdAnswer}
 use Rattle.plugin.specs.declared.HsdFile.{HsdFile}
 use Rattle.plugin.specs.declared.HsdReading.{HsdReading}
 use Rattle.plugin.specs.declared.HsdQuality.{HsdQuality}
 use Rattle.plugin.specs.declared.HsdFrameNumber.{HsdFrameNumber}
+
+-- 0 and 0 where nothing is wrong, and else the refusal's number and block
+unfoldable pub shownRuling : Ruling → HsdAnswer
+shownRuling fine = record { refusal = 0; block = 0 }
+shownRuling (refused (turned n b)) = record { refusal = n; block = b }
 
 abbrev zero : Float
 zero = fin false 0 (pos 0)

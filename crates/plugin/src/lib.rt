@@ -4,7 +4,9 @@ use calendar::FilmFrame;
 use reading::Calibration;
 use reading::Mark;
 use reading::Reading;
+use rules::Verdict;
 ghost use mathlib.Core.Path.{_≡_};
+ghost use Rattle.rules.specs.Rules.{paper};
 ghost use Rattle.accept.specs.Answers.{answerOf};
 ghost use Rattle.calendar.specs.Dates.{dayOf};
 ghost use Rattle.calendar.specs.Shots.{filmFrameOf};
@@ -12,7 +14,33 @@ ghost use Rattle.reading.specs.Counts.{readingOf};
 ghost use Rattle.reading.specs.Quality.{marksOf};
 ghost use Rattle.format.specs.Bands.{bandOf};
 ghost use Rattle.format.specs.Names.{dayOr0};
-ghost use Rattle.plugin.specs.Plugin.{refusedFile, shownFile, calibrated, calibrationC, noRadiance, shownReading, shownMark, shownMarks, shownFrame};
+ghost use Rattle.plugin.specs.Plugin.{shownRuling, refusedFile, shownFile, calibrated, calibrationC, noRadiance, shownReading, shownMark, shownMarks, shownFrame};
+
+// refusal is 0 where nothing is wrong.
+#[repr(C)]
+pub struct HsdAnswer {
+    pub refusal: u8,
+    pub block: u8,
+}
+
+// A verdict in numbers.
+pub fn answer_of(v: Verdict) -> HsdAnswer
+    ensures { λ r. ⌜ r ≡ shownRuling (paper v) ⌝ }
+{
+    match v {
+        Verdict::Fine => HsdAnswer {
+            refusal: 0,
+            block: 0,
+        },
+        Verdict::Refused(t) => {
+            let why = t.why;
+            HsdAnswer {
+                refusal: rules::number_of(why),
+                block: t.block,
+            }
+        }
+    }
+}
 
 // refusal is 0 for an accepted file, and everything after block is 0 for a refused one.
 #[repr(C)]

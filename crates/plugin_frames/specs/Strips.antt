@@ -5,22 +5,16 @@ use mathlib.Core.List.{List, [], _∷_, _++_}
 use lib.ListN.{length, drop, getD}
 use lib.Dec.{eqb, leb}
 use Rattle.wire.specs.Wire.{tab}
-use Rattle.rules.specs.Rules.{turned, Ruling, fine, refused, Row, row, tables, judge, after, Reply, reply}
+use Rattle.rules.specs.Rules.{Ruling, fine, Row, row, tables, judge, after, Reply, reply}
 use Rattle.slate.specs.declared.Slate.{Slate}
 use Rattle.slate.specs.Slates.{partsOf, slated}
 use Rattle.frame.specs.Records.{pass, oneOf, noMarks}
 use Rattle.frame.specs.Frames.{opening, openFrame, offering, recordAfter, frameAfter}
 use Rattle.frame.specs.Lines.{lineOf}
 use Rattle.plugin_frames.specs.declared.HsdSlate.{HsdSlate}
-use Rattle.plugin_frames.specs.declared.HsdAnswer.{HsdAnswer}
 
 abbrev pub slateIn : HsdSlate → Slate
 slateIn s = partsOf (s .satellite) (s .day) (s .timeline) (s .band) (s .area) (s .columns) (s .total) (s .lines)
-
--- 0 and 0 where nothing is wrong, and else the refusal's number and block
-unfoldable pub shownRuling : Ruling → HsdAnswer
-shownRuling fine = record { refusal = 0; block = 0 }
-shownRuling (refused (turned n b)) = record { refusal = n; block = b }
 
 -- ---- marks
 

@@ -1,6 +1,7 @@
 // Frames for C, thin over the proved library: a slate of plain numbers, 99 lent marks, and a lent strip of counts.
 use frame::Held;
 use frame::Record;
+use plugin::HsdAnswer;
 use rules::Verdict;
 use rules::Why;
 use slate::Line;
@@ -10,7 +11,8 @@ ghost use mathlib.Core.Path.{_≡_};
 ghost use lib.ListN.{length};
 ghost use Rattle.rules.specs.Rules.{paper, after};
 ghost use Rattle.slate.specs.Slates.{paperSlate};
-ghost use Rattle.plugin_frames.specs.Strips.{shownRuling, bitsFrom, goodMarks, marksIn, marksOut, slateC, openedC, offeredC, openMarks, openStrip, offerMarks, offerStrip, lineC, copiedOf, copyOf};
+ghost use Rattle.plugin.specs.Plugin.{shownRuling};
+ghost use Rattle.plugin_frames.specs.Strips.{bitsFrom, goodMarks, marksIn, marksOut, slateC, openedC, offeredC, openMarks, openStrip, offerMarks, offerStrip, lineC, copiedOf, copyOf};
 
 // satellite is 8 or 9, total the segments and lines those of each segment, area the four letters, the first one highest.
 #[repr(C)]
@@ -23,31 +25,6 @@ pub struct HsdSlate {
     pub lines: u16,
     pub day: u32,
     pub area: u32,
-}
-
-// refusal is 0 where nothing is wrong.
-#[repr(C)]
-pub struct HsdAnswer {
-    pub refusal: u8,
-    pub block: u8,
-}
-
-fn answer_of(v: Verdict) -> HsdAnswer
-    ensures { λ r. ⌜ r ≡ shownRuling (paper v) ⌝ }
-{
-    match v {
-        Verdict::Fine => HsdAnswer {
-            refusal: 0,
-            block: 0,
-        },
-        Verdict::Refused(t) => {
-            let why = t.why;
-            HsdAnswer {
-                refusal: rules::number_of(why),
-                block: t.block,
-            }
-        }
-    }
 }
 
 fn are_bits(marks: &[u8]) -> bool
@@ -120,10 +97,10 @@ fn keep(marks: &mut [u8], held: Held) -> HsdAnswer
 {
     let v = held.verdict;
     match v {
-        Verdict::Refused(t) => answer_of(Verdict::Refused(t)),
+        Verdict::Refused(t) => plugin::answer_of(Verdict::Refused(t)),
         Verdict::Fine => {
             store_marks(marks, held.rec);
-            answer_of(Verdict::Fine)
+            plugin::answer_of(Verdict::Fine)
         }
     }
 }
@@ -137,7 +114,7 @@ pub extern "C" fn hsd_open(slate: HsdSlate, marks: &mut [u8], frame: &mut [u16])
 {
     let made = slate_of(slate, marks.len() == 99);
     match made {
-        Slated::Refused(t) => answer_of(Verdict::Refused(t)),
+        Slated::Refused(t) => plugin::answer_of(Verdict::Refused(t)),
         Slated::Made(s) => {
             let held = frame::open(s, frame);
             keep(marks, held)
@@ -159,7 +136,7 @@ pub extern "C" fn hsd_offer(
 {
     let made = slate_of(slate, good_marks(marks));
     match made {
-        Slated::Refused(t) => answer_of(Verdict::Refused(t)),
+        Slated::Refused(t) => plugin::answer_of(Verdict::Refused(t)),
         Slated::Made(s) => {
             let held = frame::offer(s, record_of(marks), frame, file);
             keep(marks, held)

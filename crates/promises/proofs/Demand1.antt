@@ -26,7 +26,8 @@ use Rattle.frame.proofs.Asking.{line-length, line-some}
 use Rattle.frame.proofs.line_of.Reads as line-of
 use Rattle.writer.specs.Given.{orders, lengths8, lengths9, lengths10, room, given}
 use Rattle.reader.specs.Reads.{rooms2, rooms3, filled}
-use Rattle.plugin_frames.specs.Strips.{slateIn, shownRuling, longMarks, goodMarks, lent, marksIn, openedC, offeredC, openMarks, openStrip, offerMarks, offerStrip, lineC}
+use Rattle.plugin.specs.Plugin.{shownRuling}
+use Rattle.plugin_frames.specs.Strips.{slateIn, longMarks, goodMarks, lent, marksIn, openedC, offeredC, openMarks, openStrip, offerMarks, offerStrip, lineC}
 use Rattle.calendar.proofs.day_of.Reads as day-of
 use Rattle.calendar.proofs.slot.Reads as slot
 use Rattle.calendar.proofs.frame_number.Reads as frame-number

@@ -24,7 +24,8 @@ use Rattle.assembly.specs.Runs.{Call, files, rulings, Ran, Asked}
 use Rattle.assembly.proofs.Demand.{apart-agree}
 use Rattle.assembly.proofs.Runs as runs
 use Rattle.plugin_frames.specs.declared.HsdSlate.{HsdSlate}
-use Rattle.plugin_frames.specs.Strips.{slateIn, shownRuling, marksIn}
+use Rattle.plugin.specs.Plugin.{shownRuling}
+use Rattle.plugin_frames.specs.Strips.{slateIn, marksIn}
 use Rattle.promises.specs.Slated.{Good, Match}
 use Rattle.promises.proofs.Slated.{good-exactly, bears-exactly}
 use Rattle.promises.proofs.Slated as from-slate

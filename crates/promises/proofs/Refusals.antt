@@ -11,8 +11,8 @@ use lib.Dec.{eqb, leb}
 use lib.ListN.{length, drop}
 use lib.IntN.{ℤ, pos}
 use Rattle.accept.specs.declared.Facts.{Facts}
-use Rattle.plugin.specs.Plugin.{shownFile, shownFrame}
-use Rattle.plugin_frames.specs.Strips.{shownRuling, copiedOf, copyOf}
+use Rattle.plugin.specs.Plugin.{shownRuling, shownFile, shownFrame}
+use Rattle.plugin_frames.specs.Strips.{copiedOf, copyOf}
 use Rattle.promises.specs.Bare.{Bare}
 use Rattle.promises.specs.Blocks.{allowed, allowedC, inTable, Onward}
 

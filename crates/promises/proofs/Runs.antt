@@ -29,8 +29,9 @@ use Rattle.assembly.proofs.Demand.{apart-perm}
 use Rattle.assembly.proofs.Runs as runs
 use Rattle.tiling.proofs.Lawful.{below}
 use Rattle.plugin_frames.specs.declared.HsdSlate.{HsdSlate}
-use Rattle.plugin_frames.specs.declared.HsdAnswer.{HsdAnswer}
-use Rattle.plugin_frames.specs.Strips.{slateIn, shownRuling, longMarks, isBit, bitsFrom, goodMarks, lent, flags, marksIn, marksOut, openedC, offeredC, openMarks, openStrip, offerMarks, lineC, copiedOf, copyOf}
+use Rattle.plugin.specs.declared.HsdAnswer.{HsdAnswer}
+use Rattle.plugin.specs.Plugin.{shownRuling}
+use Rattle.plugin_frames.specs.Strips.{slateIn, longMarks, isBit, bitsFrom, goodMarks, lent, flags, marksIn, marksOut, openedC, offeredC, openMarks, openStrip, offerMarks, lineC, copiedOf, copyOf}
 use Rattle.plugin_frames.proofs.Lending.{length-flags, lent-good, offer-strip}
 use Rattle.plugin_frames.proofs.hsd_open.Reads as hsd-open
 use Rattle.promises.specs.Blocks.{allowed}

@@ -6,7 +6,7 @@ use mathlib.Core.List.{List, [], _∷_}
 use lib.Dec.{eqb, leb}
 use Rattle.rules.specs.Rules.{Turned, turned, Row, test, Ruling, fine, refused}
 
--- 1 SHORT, 2 NUMBER and 4 LENGTH: block k; 5 FIXED; 6 PACKED; 7 FIELD; 11 CUT and 12 TAIL; 13 SLATE to 17 ROOM; the others: block 1
+-- 1 SHORT, 2 NUMBER and 4 LENGTH: block k; 5 FIXED; 6 PACKED; 7 FIELD; 11 CUT and 12 TAIL; 13 SLATE to 18 REEL; the others: block 1
 abbrev blocksOf : ℕ → List ℕ
 blocksOf n =
     cond (eqb n 1 || (eqb n 2 || eqb n 4)) (1 ∷ 2 ∷ 3 ∷ 4 ∷ 5 ∷ 6 ∷ 7 ∷ 8 ∷ 9 ∷ 10 ∷ 11 ∷ [])
@@ -14,7 +14,7 @@ blocksOf n =
     (cond (eqb n 6) (2 ∷ [])
     (cond (eqb n 7) (0 ∷ 1 ∷ 2 ∷ 5 ∷ 7 ∷ [])
     (cond (eqb n 11 || eqb n 12) (12 ∷ [])
-    (cond (leb 13 n && leb n 17) (0 ∷ [])
+    (cond (leb 13 n && leb n 18) (0 ∷ [])
     (cond (eqb n 3 || leb 8 n && leb n 10) (1 ∷ []) []))))))
 
 abbrev among : ℕ → List ℕ → Bool

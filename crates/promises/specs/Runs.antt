@@ -5,7 +5,7 @@ use mathlib.Core.List.{List, [], _∷_, map}
 use denote.Ref.{now}
 use Rattle.assembly.specs.History.{File}
 use Rattle.plugin_frames.specs.declared.HsdSlate.{HsdSlate}
-use Rattle.plugin_frames.specs.declared.HsdAnswer.{HsdAnswer}
+use Rattle.plugin.specs.declared.HsdAnswer.{HsdAnswer}
 use Rattle.plugin_frames.proofs.hsd_open.Reads as opening
 use Rattle.plugin_frames.proofs.hsd_offer.Reads as offering
 use Rattle.plugin_frames.proofs.hsd_line.Reads as asking

@@ -6,7 +6,7 @@ use Prim.Native.Nat.{ℕ}
 use lib.Dec.{eqb}
 use Rattle.rules.specs.Rules.{numberOf, Turned, turned, paperOf, Ruling, fine, refused, paper}
 use Rattle.rules.specs.declared.Why.{Why}
-use Rattle.rules.specs.declared.Why.the-variants.{Short, Number, Order, Length, Fixed, Packed, Field, HeaderSum, DataSum, Name, Cut, Tail, Slate, Strip, OtherShot, Already, Room}
+use Rattle.rules.specs.declared.Why.the-variants.{Short, Number, Order, Length, Fixed, Packed, Field, HeaderSum, DataSum, Name, Cut, Tail, Slate, Strip, OtherShot, Already, Room, Reel}
 use Rattle.rules.specs.declared.Refusal.{Refusal}
 use Rattle.rules.specs.declared.Verdict.{Verdict}
 use Rattle.rules.specs.declared.Verdict.the-variants.{Fine, Refused}
@@ -33,7 +33,8 @@ named n =
     (when (eqb n 13) Slate
     (when (eqb n 14) Strip
     (when (eqb n 15) OtherShot
-    (when (eqb n 16) Already Room)))))))))))))))
+    (when (eqb n 16) Already
+    (when (eqb n 17) Room Reel))))))))))))))))
 
 pub named-number : (w : Why) → named (numberOf w) ≡ w
 unfolding named
@@ -54,6 +55,7 @@ named-number Strip = refl
 named-number OtherShot = refl
 named-number Already = refl
 named-number Room = refl
+named-number Reel = refl
 
 unfoldable pub refusalOf : Turned → Refusal
 refusalOf (turned n b) = record { why = named n; block = b }

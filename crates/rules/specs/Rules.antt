@@ -4,7 +4,7 @@ use mathlib.Core.Path.{_≡_}
 use mathlib.Core.List.{List, [], _∷_, _++_}
 use mathlib.Core.Bool.{Bool, true, false}
 use Rattle.rules.specs.declared.Why.{Why}
-use Rattle.rules.specs.declared.Why.the-variants.{Short, Number, Order, Length, Fixed, Packed, Field, HeaderSum, DataSum, Name, Cut, Tail, Slate, Strip, OtherShot, Already, Room}
+use Rattle.rules.specs.declared.Why.the-variants.{Short, Number, Order, Length, Fixed, Packed, Field, HeaderSum, DataSum, Name, Cut, Tail, Slate, Strip, OtherShot, Already, Room, Reel}
 use Rattle.rules.specs.declared.Refusal.{Refusal}
 use Rattle.rules.specs.declared.Verdict.{Verdict}
 use Rattle.rules.specs.declared.Verdict.the-variants as verdicts
@@ -28,6 +28,7 @@ numberOf Strip = 14
 numberOf OtherShot = 15
 numberOf Already = 16
 numberOf Room = 17
+numberOf Reel = 18
 
 -- what the paper says with a refusal: its number and block
 pub data Turned : Type 0 where

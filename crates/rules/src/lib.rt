@@ -21,6 +21,7 @@ pub enum Why {
     OtherShot,
     Already,
     Room,
+    Reel,
 }
 
 // A refusal, and the block that it concerns: 0 where it concerns none, 12 for the counts.
@@ -73,5 +74,6 @@ pub fn number_of(why: Why) -> u8
         Why::OtherShot => 15,
         Why::Already => 16,
         Why::Room => 17,
+        Why::Reel => 18,
     }
 }

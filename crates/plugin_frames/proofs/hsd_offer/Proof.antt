@@ -4,7 +4,8 @@ use lib.ListN.{length}
 use Rattle.rules.specs.Rules.{paper, after}
 use Rattle.slate.specs.Slates.{paperSlate}
 use Rattle.frame.specs.Frames.{offering}
-use Rattle.plugin_frames.specs.Strips.{slateIn, slateC, goodMarks, shownRuling, marksIn, offeredC, offerMarks, offerStrip}
+use Rattle.plugin.specs.Plugin.{shownRuling}
+use Rattle.plugin_frames.specs.Strips.{slateIn, slateC, goodMarks, marksIn, offeredC, offerMarks, offerStrip}
 use Rattle.plugin_frames.proofs.Lending.{Lent, lent-made, lent-good, good-long, lent-offered, offer-strip}
 use borrow.Author.Needs.{needs}
 use Rattle.plugin_frames.proofs.hsd_offer.Statement.{statement}

@@ -5,7 +5,8 @@ use lib.ListN.{length}
 use Rattle.rules.specs.Rules.{paper, after}
 use Rattle.slate.specs.Slates.{paperSlate}
 use Rattle.frame.specs.Frames.{opening}
-use Rattle.plugin_frames.specs.Strips.{slateIn, longMarks, shownRuling, openedC, openMarks, openStrip}
+use Rattle.plugin.specs.Plugin.{shownRuling}
+use Rattle.plugin_frames.specs.Strips.{slateIn, longMarks, openedC, openMarks, openStrip}
 use Rattle.plugin_frames.proofs.Lending.{Lent, lent-made, lent-good, lent-opened, open-strip}
 use borrow.Author.Needs.{needs}
 use Rattle.plugin_frames.proofs.hsd_open.Statement.{statement}

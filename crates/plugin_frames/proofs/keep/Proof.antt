@@ -1,6 +1,6 @@
 use mathlib.Core.Path.{sym, ap, _∙_}
 use Rattle.rules.specs.Rules.{paper, after}
-use Rattle.plugin_frames.specs.Strips.{shownRuling}
+use Rattle.plugin.specs.Plugin.{shownRuling}
 use borrow.Author.Needs.{needs}
 use Rattle.plugin_frames.proofs.keep.Statement.{statement}
 use Rattle.plugin_frames.proofs.keep.Tie as tie

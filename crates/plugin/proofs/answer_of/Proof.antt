@@ -1,10 +1,10 @@
 use mathlib.Core.Path.{sym, ap}
 use Rattle.rules.specs.Rules.{paper}
 use Rattle.rules.specs.declared.Verdict.{Verdict}
-use Rattle.plugin_frames.specs.Strips.{shownRuling}
+use Rattle.plugin.specs.Plugin.{shownRuling}
 use borrow.Author.Needs.{needs}
-use Rattle.plugin_frames.proofs.answer_of.Statement.{statement}
-use Rattle.plugin_frames.proofs.answer_of.Tie as tie
+use Rattle.plugin.proofs.answer_of.Statement.{statement}
+use Rattle.plugin.proofs.answer_of.Tie as tie
 
 returns : tie.Need-returns
 unfolding paper shownRuling

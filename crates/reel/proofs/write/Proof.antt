@@ -1,0 +1,38 @@
+-- `write`: a refusal leaves all as it was; what fits is stored.
+use mathlib.Core.Path.{_≡_, sym, ap, _∙_}
+use mathlib.Core.Bool.{true}
+use denote.Ref.{now}
+use Rattle.rules.specs.Rules.{paper}
+use Rattle.reel.specs.Reels.{reelOf}
+use Rattle.reel.specs.Writing.{listed, wrote}
+use Rattle.reel.proofs.Writing.{bounds, reel-need, fine-good, written-refused, written-fine, reel-stored}
+use native.Mathlib.Omega.{arith}
+use borrow.Author.Needs.{needs}
+use Rattle.reel.proofs.write.Statement.{statement}
+use Rattle.reel.proofs.write.Tie as tie
+
+check-list-requires : tie.Need-check-list-requires
+check-list-requires c κs = search needs
+
+judged : (c : tie.After-check-list) → paper (c .check-list .result) ≡ wrote (now (c .before .before .before .before .args .files)) (now (c .before .before .before .before .args .lengths)) (reelOf (listed (now (c .before .before .before .before .args .files)) (now (c .before .before .before .before .args .lengths)))) (now (c .before .before .before .before .args .out))
+judged c = c .check-list .ensures ∙ reel-need _ _ (now (c .before .before .before .before .args .out))
+
+put-trailer-requires : tie.Need-put-trailer-requires
+unfolding paper
+put-trailer-requires c κs =
+    let k = c .before .before .before .before .before .before .before in
+    let g = fine-good _ _ _ _ (sym (ap paper (sym (c .before .before .before .before .before .enum-told .given .1)) ∙ judged k)) in
+    (omega (arith, bounds _ _ g .1), g)
+
+returns : tie.Need-returns
+returns c = written-refused _ _ _ _ (judged (c .before .before .before)) (c .before .v .given .1)
+
+returns-2 : tie.Need-returns-2
+unfolding paper
+returns-2 c =
+    let k = c .before .before .before .before .before .before .before .before .before .before in
+    let e = ap paper (sym (c .before .before .before .before .before .before .before .before .enum-told .given .1)) ∙ judged k in
+    (e, written-fine _ _ _ _ (sym e) (reel-stored _ _ (bounds _ _ (fine-good _ _ _ _ (sym e)) .2) _ (c .before .before .before .before .before .before .put .ensures) (c .before .before .put-trailer .ensures)))
+
+pub write-spec : {M : Type 1} → statement M
+write-spec = tie.close (tie.spec check-list-requires (λ c. search needs) (λ c. search needs) (λ c κs. search needs) put-trailer-requires returns (λ c. search needs) returns-2)

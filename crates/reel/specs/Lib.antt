@@ -1,0 +1,4 @@
+-- The definitions that the contracts cite.
+pub mod Ends
+pub mod Reels
+pub mod Writing
