@@ -1,6 +1,6 @@
 //! A second opinion on which satellite files are accepted, what their quality flag says, which headers
-//! are read and written and what frames show, from documents 01 and 02 alone, and the inputs on which
-//! it is compared with the proved library.
+//! are read and written, what frames show and which reels are opened and written, from documents 01 and
+//! 02 alone, and the inputs on which it is compared with the proved library.
 
 pub mod accept;
 pub mod assemble;
@@ -14,6 +14,7 @@ pub mod proved;
 pub mod quality;
 pub mod random;
 pub mod readers;
+pub mod reel;
 pub mod takes;
 pub mod tally;
 pub mod values;
