@@ -4,9 +4,16 @@
    many nanoseconds hsd_accept takes on those bytes, as a double. With only the next bit set the request is a
    History, and the answer what each of its steps answers. With both set the bytes begin with the number of a
    question, eight bytes with the lowest first, and the rest is the question's own:
-     0  one byte, quality flag 1; the answer is its HsdQuality as it stands in memory.
-   A question of another number or another length ends the bridge with status 1. Built with the kit's own
-   compiler, which has no headers: what is used of C is declared here. */
+     0  quality: one byte, quality flag 1; the answer is its HsdQuality as it stands in memory.
+     1  open: the rest is the reel; the answer is an HsdReel as it stands in memory.
+     2  part: eight bytes, the part's number (its low 16 bits), then the reel; the answer is an HsdPart.
+     3  write: eight bytes each, how many lengths there are and how many bytes of output; then the lengths, four
+        bytes each, and the files. The answer is an HsdAnswer and the whole output, filled with 0xaa before.
+     4  seal: as 3.
+     5  trailer: eight bytes, the number of files; the answer is eight bytes.
+   A question of another number, with bytes that are too few, or with bytes that have no meaning behind those of 0
+   and 5 ends the bridge with status 1. Built with the kit's own compiler, which has no headers: what is used of C is
+   declared here. */
 typedef unsigned char u8;
 typedef unsigned short u16;
 typedef unsigned int u32;
@@ -39,6 +46,15 @@ typedef struct HsdAnswer {
     u8 refusal, block;
 } HsdAnswer;
 
+typedef struct HsdReel {
+    u8 refusal, block;
+    u16 files;
+} HsdReel;
+
+typedef struct HsdPart {
+    u32 offset, length;
+} HsdPart;
+
 HsdFile hsd_accept(const u8 *file, u64 length);
 HsdQuality hsd_quality(u8 quality);
 HsdAnswer hsd_open(HsdSlate slate, u8 *marks, u64 marks_length, u16 *frame, u64 frame_length);
@@ -46,6 +62,13 @@ HsdAnswer hsd_offer(HsdSlate slate, u8 *marks, u64 marks_length, u16 *frame, u64
                     u64 file_length);
 u64 hsd_line(HsdSlate slate, const u8 *marks, u64 marks_length, const u16 *frame, u64 frame_length, const u16 *leader,
              u64 leader_length, u16 line, u16 *out, u64 out_length);
+HsdReel hsd_reel_open(const u8 *reel, u64 reel_length);
+HsdPart hsd_reel_part(const u8 *reel, u64 reel_length, u16 number);
+u64 hsd_reel_trailer(u64 files);
+HsdAnswer hsd_reel_write(const u8 *files, u64 files_length, const u32 *lengths, u64 lengths_length, u8 *out,
+                         u64 out_length);
+HsdAnswer hsd_reel_seal(const u8 *files, u64 files_length, const u32 *lengths, u64 lengths_length, u8 *out,
+                        u64 out_length);
 
 struct timespec { long seconds, nanoseconds; };
 int clock_gettime(int clock, struct timespec *now);
@@ -233,18 +256,98 @@ static void play(History *h)
     flush();
 }
 
-/* Questions have numbers of their own: the length's two top bits have no more kinds to give. */
-static void reply(const u8 *request, u64 length)
+/* What of a question has not been read yet. */
+typedef struct Rest {
+    u8 *bytes;
+    u64 length;
+} Rest;
+
+/* The next so many bytes; too few end the bridge. */
+static u8 *next(Rest *rest, u64 length)
 {
-    enum { QUALITY };
-    u64 question;
-    if (length < sizeof question)
+    u8 *bytes = rest->bytes;
+    if (length > rest->length)
         exit(1);
-    memcpy(&question, request, sizeof question);
-    if (question != QUALITY || length != sizeof question + 1)
+    rest->bytes += length;
+    rest->length -= length;
+    return bytes;
+}
+
+static u64 next_number(Rest *rest)
+{
+    u64 number;
+    memcpy(&number, next(rest, sizeof number), sizeof number);
+    return number;
+}
+
+static void end(Rest rest)
+{
+    if (rest.length > 0)
         exit(1);
-    HsdQuality told = hsd_quality(request[sizeof question]);
+}
+
+static void ask_quality(Rest rest)
+{
+    u8 flag = *next(&rest, 1);
+    end(rest);
+    HsdQuality told = hsd_quality(flag);
     answer(&told, sizeof told);
+}
+
+static void ask_reel(Rest rest)
+{
+    HsdReel told = hsd_reel_open(rest.bytes, rest.length);
+    answer(&told, sizeof told);
+}
+
+static void ask_part(Rest rest)
+{
+    u16 number = (u16)next_number(&rest);
+    HsdPart told = hsd_reel_part(rest.bytes, rest.length, number);
+    answer(&told, sizeof told);
+}
+
+static void ask_trailer(Rest rest)
+{
+    u64 files = next_number(&rest);
+    end(rest);
+    u64 told = hsd_reel_trailer(files);
+    answer(&told, sizeof told);
+}
+
+/* hsd_reel_write or hsd_reel_seal. */
+typedef HsdAnswer Writer(const u8 *, u64, const u32 *, u64, u8 *, u64);
+
+/* The lengths stand 24 bytes after the request's start, so they are aligned as it is. */
+static void ask_writer(Rest rest, Writer *writer)
+{
+    static u8 *out;
+    u64 lengths_length = next_number(&rest);
+    u64 out_length = next_number(&rest);
+    if (lengths_length > rest.length / sizeof(u32))
+        exit(1);
+    const u32 *lengths = (const u32 *)next(&rest, lengths_length * sizeof(u32));
+    out = room(out, out_length);
+    memset(out, 0xaa, out_length);
+    HsdAnswer told = writer(rest.bytes, rest.length, lengths, lengths_length, out, out_length);
+    answer(&told, sizeof told);
+    answer(out, out_length);
+}
+
+/* Questions have numbers of their own: the length's two top bits have no more kinds to give. */
+static void reply(u8 *request, u64 length)
+{
+    enum { QUALITY, REEL, PART, WRITE, SEAL, TRAILER };
+    Rest rest = { request, length };
+    switch (next_number(&rest)) {
+    case QUALITY: ask_quality(rest); break;
+    case REEL: ask_reel(rest); break;
+    case PART: ask_part(rest); break;
+    case WRITE: ask_writer(rest, hsd_reel_write); break;
+    case SEAL: ask_writer(rest, hsd_reel_seal); break;
+    case TRAILER: ask_trailer(rest); break;
+    default: exit(1);
+    }
 }
 
 int main(void)

@@ -1,4 +1,4 @@
-//! The proved library's acceptance, marks and assembly, asked over the bridge, and the comparison of
+//! The proved library's acceptance, marks, assembly and reels, asked over the bridge, and the comparison of
 //! an acceptance with the reference's.
 
 use std::io::{self, BufReader, BufWriter, Read, Write};
@@ -91,9 +91,53 @@ impl Requests {
 
     /// Asks what quality flag 1 says, question 0.
     pub fn ask_quality(&mut self, flag: u8) -> io::Result<()> {
-        self.0.write_all(&(9_u64 | 3 << 62).to_le_bytes())?;
-        self.0.write_all(&0_u64.to_le_bytes())?;
-        self.0.write_all(&[flag])
+        self.question(0, &[&[flag]])
+    }
+
+    /// Asks to open a reel, question 1.
+    pub fn ask_reel_open(&mut self, reel: &[u8]) -> io::Result<()> {
+        self.question(1, &[reel])
+    }
+
+    /// Asks for a part by its number, question 2.
+    pub fn ask_reel_part(&mut self, reel: &[u8], number: u16) -> io::Result<()> {
+        self.question(2, &[&u64::from(number).to_le_bytes(), reel])
+    }
+
+    /// Asks to write the reel of files that stand end to end to an output of so many bytes, question 3.
+    pub fn ask_reel_write(&mut self, files: &[u8], lengths: &[u32], room: usize) -> io::Result<()> {
+        self.ask_writer(3, files, lengths, room)
+    }
+
+    /// Asks to write their trailer alone, question 4.
+    pub fn ask_reel_seal(&mut self, files: &[u8], lengths: &[u32], room: usize) -> io::Result<()> {
+        self.ask_writer(4, files, lengths, room)
+    }
+
+    /// Asks how many bytes a trailer of so many files has, question 5.
+    pub fn ask_reel_trailer(&mut self, files: u64) -> io::Result<()> {
+        self.question(5, &[&files.to_le_bytes()])
+    }
+
+    fn ask_writer(
+        &mut self,
+        question: u64,
+        files: &[u8],
+        lengths: &[u32],
+        room: usize,
+    ) -> io::Result<()> {
+        let numbers = [lengths.len(), room].map(|number| (number as u64).to_le_bytes());
+        let lengths: Vec<u8> = lengths.iter().flat_map(|l| l.to_le_bytes()).collect();
+        self.question(question, &[&numbers.concat(), &lengths, files])
+    }
+
+    /// A question by its number, and what it is about.
+    fn question(&mut self, question: u64, parts: &[&[u8]]) -> io::Result<()> {
+        let length: usize = parts.iter().map(|part| part.len()).sum();
+        self.0
+            .write_all(&((8 + length) as u64 | 3 << 62).to_le_bytes())?;
+        self.0.write_all(&question.to_le_bytes())?;
+        parts.iter().try_for_each(|part| self.0.write_all(part))
     }
 
     /// No more requests: the bridge gives its last answers and ends.
@@ -139,6 +183,39 @@ impl Answers {
         let mut b = [0; 8];
         self.from.read_exact(&mut b)?;
         Ok(b)
+    }
+
+    /// The members of an `HsdReel`: refusal, block and number of files.
+    pub fn next_reel_open(&mut self) -> io::Result<(u8, u8, u16)> {
+        let mut b = [0; 4];
+        self.from.read_exact(&mut b)?;
+        Ok((b[0], b[1], u16::from_le_bytes([b[2], b[3]])))
+    }
+
+    /// The members of an `HsdPart`: offset and length.
+    pub fn next_reel_part(&mut self) -> io::Result<(u32, u32)> {
+        let mut b = [0; 8];
+        self.from.read_exact(&mut b)?;
+        let [o0, o1, o2, o3, l0, l1, l2, l3] = b;
+        Ok((
+            u32::from_le_bytes([o0, o1, o2, o3]),
+            u32::from_le_bytes([l0, l1, l2, l3]),
+        ))
+    }
+
+    /// Refusal and block of a reel or a trailer that was asked to be written, and the whole output of so many bytes.
+    pub fn next_reel_output(&mut self, room: usize) -> io::Result<((u8, u8), Vec<u8>)> {
+        let mut answer = [0; 2];
+        self.from.read_exact(&mut answer)?;
+        let mut out = vec![0; room];
+        self.from.read_exact(&mut out)?;
+        Ok(((answer[0], answer[1]), out))
+    }
+
+    pub fn next_reel_trailer(&mut self) -> io::Result<u64> {
+        let mut b = [0; 8];
+        self.from.read_exact(&mut b)?;
+        Ok(u64::from_le_bytes(b))
     }
 
     /// So many bytes of a history's answer.
