@@ -8,6 +8,7 @@ pub mod breach;
 pub mod damage;
 pub mod histories;
 pub mod images;
+pub mod lists;
 pub mod make;
 pub mod mix;
 pub mod proved;
