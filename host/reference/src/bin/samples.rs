@@ -1,6 +1,6 @@
 //! Writes the files on which the command is tried, into a folder, with what it must say of them: good ones, one for
-//! every rule that is broken, one for every quality flag, and the segments of a small frame with its pictures. Everything
-//! comes from documents 01 and 02.
+//! every rule that is broken, one for every quality flag, the segments of a small frame with its pictures, and reels of
+//! these. Everything comes from documents 01 and 02.
 
 use std::fs;
 use std::path::{Path, PathBuf};
@@ -10,6 +10,7 @@ use reference::breach::{breaches, recipe};
 use reference::make::{Recipe, Sample};
 use reference::quality::{marks, NAMES};
 use reference::random::Random;
+use reference::reel;
 
 const COLUMNS: u64 = 64;
 const LINES: u64 = 3;
@@ -24,6 +25,7 @@ fn main() {
     write_refused(&folder, &mut random);
     write_frame(&folder, &mut random);
     write_quality(&folder, &mut random);
+    write_reels(&folder);
 }
 
 fn write(folder: &Path, name: &str, bytes: &[u8]) {
@@ -72,6 +74,75 @@ fn write_refused(folder: &Path, random: &mut Random) {
         }
     }
     write(folder, "refused.lines", lines.as_bytes());
+}
+
+/// Reels of samples that are there already, what the listing must have of the first one, and which file of a bad one is
+/// at fault: its number, offset, length, refusal and block.
+fn write_reels(folder: &Path) {
+    let sample = |name: &str| fs::read(folder.join(name)).expect("the sample is written");
+    let box_of = |names: &[&str]| names.iter().map(|name| sample(name)).collect::<Vec<_>>();
+
+    let files = box_of(&["segment-1", "segment-2", "segment-3", "segment-4", "good-0"]);
+    let mut reel = reel_of(&files);
+    write(folder, "reel", &reel);
+    let lines: String = files.iter().map(|file| listing(file)).collect();
+    write(folder, "reel.lines", lines.as_bytes());
+    let twice = box_of(&["segment-1", "segment-2", "segment-1"]);
+    write(folder, "reel-twice", &reel_of(&twice));
+    let by_turns = box_of(&["good-0", "good-1"]).into_iter().cycle();
+    let most: Vec<_> = by_turns.take(reel::MOST_FILES).collect();
+    write(folder, "reel-255", &reel_of(&most));
+
+    let mut bad = box_of(&["segment-1", "refused-0-022", "good-0"]);
+    let refusal = accept(&bad[1]).expect_err("it is refused");
+    let (offset, length) = (bad[0].len(), bad[1].len());
+    let line = format!("2 {offset} {length} {} {}\n", refusal.number, refusal.block);
+    bad.push(trailer_of(&bad));
+    write(folder, "reel-bad", &bad.concat());
+    write(folder, "reel-bad.line", line.as_bytes());
+
+    let end = reel.len();
+    let offset = u32::from_le_bytes(reel[end - 8..end - 4].try_into().expect("four bytes"));
+    let mut broken = reel.clone();
+    broken[end - 8..end - 4].copy_from_slice(&(offset + 1).to_le_bytes());
+    write(folder, "reel-broken", &broken);
+    reel[end - 4..].copy_from_slice(b"REL2");
+    write(folder, "reel-letters", &reel);
+}
+
+/// The trailer of files that need not be good.
+fn trailer_of(files: &[Vec<u8>]) -> Vec<u8> {
+    let lengths: Vec<u32> = files.iter().map(|file| file.len() as u32).collect();
+    let offered = lengths.iter().map(|length| u64::from(*length)).sum();
+    reel::trailer(offered, &lengths).expect("the files have a trailer")
+}
+
+/// The reel of good files.
+fn reel_of(files: &[Vec<u8>]) -> Vec<u8> {
+    let lengths: Vec<u32> = files.iter().map(|file| file.len() as u32).collect();
+    let bytes = files.concat();
+    let mut reel = vec![0; bytes.len() + 8 * files.len() + 9];
+    reel::write(&bytes, &lengths, &mut reel).expect("the files have a reel");
+    assert_eq!(reel::open(&reel), Ok(files.len() as u16));
+    reel
+}
+
+/// The line that the listing has of a good file.
+fn listing(file: &[u8]) -> String {
+    let facts = accept(file).expect("the file is good");
+    let area = String::from_utf8_lossy(&facts.area).into_owned();
+    format!(
+        "OK {} {} {:04} {} {area} {} {} {} {} {}\n",
+        facts.satellite,
+        facts.day,
+        facts.timeline,
+        facts.band,
+        facts.columns,
+        facts.lines,
+        facts.number,
+        facts.total,
+        facts.first_line
+    )
 }
 
 /// A good file for every quality flag, in byte orders that alternate, and the lines that `quality` must have of them.
