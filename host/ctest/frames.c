@@ -1,42 +1,19 @@
 /* The functions on files and frames, from C, over the small frame of the samples: its folder is the argument. */
-#include <stdlib.h>
 #include <string.h>
 
-#include "hsd.h"
-#include "test.h"
+#include "samples.h"
 
-enum { COLUMNS = 64, LINES = 3, TOTAL = 4, LINE_COUNT = LINES * TOTAL, SIZE = LINE_COUNT * COLUMNS, ROOM = 2048 };
+enum { COLUMNS = 64, LINES = 3, TOTAL = 4, LINE_COUNT = LINES * TOTAL, SIZE = LINE_COUNT * COLUMNS };
 
 static const HsdSlate slate = {
     .satellite = 8, .total = TOTAL, .timeline = 200, .band = 13, .columns = COLUMNS, .lines = LINES, .day = 57210,
     .area = HSD_AREA('F', 'L', 'D', 'K')};
-
-typedef struct Bytes {
-    uint8_t bytes[ROOM];
-    size_t length;
-} Bytes;
 
 /* Everything that a call may write to. */
 typedef struct State {
     uint8_t marks[HSD_MARKS];
     uint16_t frame[SIZE + 1];
 } State;
-
-static const char *folder;
-
-static Bytes sample(const char *name)
-{
-    Bytes file = {{0}, 0};
-    char path[4096];
-    snprintf(path, sizeof path, "%s/%s", folder, name);
-    FILE *from = fopen(path, "rb");
-    CHECK(from != NULL);
-    if (from) {
-        file.length = fread(file.bytes, 1, ROOM, from);
-        fclose(from);
-    }
-    return file;
-}
 
 static HsdAnswer offer_to(HsdSlate to, State *state, size_t marks, size_t size, const Bytes *file)
 {
@@ -46,11 +23,6 @@ static HsdAnswer offer_to(HsdSlate to, State *state, size_t marks, size_t size, 
 static HsdAnswer open_for(HsdSlate to, State *state, size_t marks, size_t size)
 {
     return hsd_open(to, state->marks, marks, state->frame, size);
-}
-
-static bool is(HsdAnswer answer, uint8_t refusal, uint8_t block)
-{
-    return answer.refusal == refusal && answer.block == block;
 }
 
 static void check_files(void)
