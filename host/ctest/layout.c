@@ -62,6 +62,15 @@ AT(HsdAnswer, refusal, 0, 1);
 AT(HsdAnswer, block, 1, 1);
 WHOLE(HsdAnswer, 2, 1);
 
+AT(HsdReel, refusal, 0, 1);
+AT(HsdReel, block, 1, 1);
+AT(HsdReel, files, 2, 2);
+WHOLE(HsdReel, 4, 2);
+
+AT(HsdPart, offset, 0, 4);
+AT(HsdPart, length, 4, 4);
+WHOLE(HsdPart, 8, 4);
+
 int main(void)
 {
     puts("layout: as x86-64 has it");
