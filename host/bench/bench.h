@@ -59,19 +59,19 @@ static inline double now(void)
     return (double)t.tv_sec + (double)t.tv_nsec * 1e-9;
 }
 
-static inline double seconds(void (*run)(Bench *), Bench *b)
+static inline double seconds(void (*run)(void *), void *with)
 {
     double began = now();
-    run(b);
+    run(with);
     return now() - began;
 }
 
 /* The least times of rounds that take turns: others use the machine too, and they only ever add time. */
-static inline void compare(const char *what, void (*proved)(Bench *), void (*plain)(Bench *), Bench *b)
+static inline void compare(const char *what, void (*proved)(void *), void (*plain)(void *), void *with)
 {
     double least = 1e9, least_plain = 1e9;
     for (int round = 0; round < ROUNDS; round++) {
-        double took = seconds(proved, b), took_plain = seconds(plain, b);
+        double took = seconds(proved, with), took_plain = seconds(plain, with);
         least = took < least ? took : least;
         least_plain = took_plain < least_plain ? took_plain : least_plain;
     }

@@ -3,16 +3,18 @@
 
 #include "bench.h"
 
-static void offer_all(Bench *b)
+static void offer_all(void *with)
 {
+    Bench *b = with;
     memset(b->marks, 0, HSD_MARKS);
     for (int i = 0; i < FILES; i++)
         if (hsd_offer(b->slate, b->marks, HSD_MARKS, b->frame, b->size, b->files[i], b->lengths[i]).refusal)
             fail("a segment was refused");
 }
 
-static void copy_all(Bench *b)
+static void copy_all(void *with)
 {
+    const Bench *b = with;
     size_t part = b->size / FILES;
     for (size_t i = 0; i < FILES; i++)
         memcpy(b->frame + i * part, b->files[i] + b->lengths[i] - 2 * part, 2 * part);

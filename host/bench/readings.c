@@ -7,8 +7,9 @@ enum { MIDDLE = 4 };
 /* Sums, so that no loop can be left out; either way of reading must give the same. */
 static volatile double seen;
 
-static void read_proved(Bench *b)
+static void read_proved(void *with)
 {
+    const Bench *b = with;
     HsdFile f = hsd_accept(b->files[MIDDLE], b->lengths[MIDDLE]);
     const uint16_t *counts = b->frame + MIDDLE * (b->size / FILES);
     double sum = 0;
@@ -17,8 +18,9 @@ static void read_proved(Bench *b)
     seen = sum;
 }
 
-static void read_inlined(Bench *b)
+static void read_inlined(void *with)
 {
+    const Bench *b = with;
     HsdFile f = hsd_accept(b->files[MIDDLE], b->lengths[MIDDLE]);
     const uint16_t *counts = b->frame + MIDDLE * (b->size / FILES);
     double sum = 0;
