@@ -54,6 +54,7 @@ static uint8_t *end_of_memory; /* what stands behind it cannot be read */
 static List list;
 static Reel reel;
 
+/* Good files are 1 to 4, a and b; n begins with a wrong number, c is cut by a byte, t has one more, and 0 has none. */
 static void load_kinds(void)
 {
     kinds['1'] = sample("segment-1");
@@ -394,7 +395,7 @@ static void check_few_bytes(void)
     }
 }
 
-/* The fewest bytes with an entry. */
+/* The fewest bytes with an entry; without the letters what follows it would do for another one. */
 static void check_one_entry(void)
 {
     for (size_t size = 0; size <= 3; size++) {
@@ -407,6 +408,8 @@ static void check_one_entry(void)
         put_entry(bytes + size, 1, 0, size);
         CHECK(opens(bytes, length, HSD_SHORT, 1, 0));
         CHECK(shows(bytes, length, 1, 0, size));
+        memset(bytes + length - 4, 0, 4);
+        CHECK(shows(bytes, length, 2, 0, 0));
     }
 }
 
