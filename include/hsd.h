@@ -203,9 +203,9 @@ typedef struct HsdPart {
     uint32_t length;
 } HsdPart;
 
-/* The file of a number, counted from 1: what its entry says, if that lies wholly in the reel, and else 0 and 0. In a reel that
- * hsd_reel_open has opened these are its files, 1 to `files`; of other bytes it says no more than what stands in the entry.
- * So which file of a refused reel is at fault can be found (HSD_REEL itself means that there are no files to speak of):
+/* The file of a number, counted from 1: what its entry says, if the entry and what it points to lie wholly in the reel, and
+ * else 0 and 0. In a reel that hsd_reel_open has opened these are its files, 1 to `files`; of other bytes it says no more than
+ * what stands there. So which file of a refused reel is at fault can be found, unless it is HSD_REEL, which is told before any:
  *
  *   HsdReel answer = hsd_reel_open(reel, reel_length);
  *   for (uint16_t number = 1; answer.refusal && answer.refusal != HSD_REEL; number++) {
@@ -220,13 +220,13 @@ size_t hsd_reel_trailer(size_t files);
 
 /* Writes the reel of files that stand end to end, given their lengths, to the front of out: HSD_REEL (no files or more than
  * 255, lengths that do not add up to files_length, or a reel of 2 to the 32 bytes or more), the first refused file's own
- * refusal, HSD_ROOM (out is shorter than files_length and the trailer), or fine. lengths_length counts lengths, not bytes; the
- * pointer to them is aligned for uint32_t. What stands in out after the reel stays as it was. */
+ * refusal, HSD_ROOM (out is shorter than files_length and the trailer), or fine. lengths_length counts lengths, not bytes,
+ * and the pointer to them is aligned for uint32_t. What stands in out after the reel stays as it was. */
 HsdAnswer hsd_reel_write(const uint8_t *files, size_t files_length, const uint32_t *lengths, size_t lengths_length,
                          uint8_t *out, size_t out_length);
 
-/* The same with the trailer alone, which goes to the front of out: for files that already stand where the reel is to be, with
- * out right after them. */
+/* The same with the trailer alone, which goes to the front of out: for files that already stand where the reel is to be,
+ * with out right after them. */
 HsdAnswer hsd_reel_seal(const uint8_t *files, size_t files_length, const uint32_t *lengths, size_t lengths_length,
                         uint8_t *out, size_t out_length);
 

@@ -541,7 +541,7 @@ static void check_huge_list(Writer *writer, const uint8_t *huge, uint64_t size, 
     CHECK(memcmp(out, untouched, ROOM) == 0);
 }
 
-/* An entry of a reel that is too big is shown like any other. */
+/* An entry of a reel that is too big is shown like any other, as long as four bytes can point at it. */
 static void check_huge_part(uint8_t *huge, uint64_t length, uint64_t offset, uint64_t part_length, bool within)
 {
     uint8_t *trailer = huge + length - ENTRY - END;
@@ -584,10 +584,10 @@ static void check_huge(void)
     check_huge_reel(huge, LIMIT + ENTRY + END + kinds['1'].length, HSD_REEL, 0);
     check_huge_lists(hsd_reel_write, huge);
     check_huge_lists(hsd_reel_seal, huge);
-    check_huge_part(huge, LIMIT + 20, 0, LIMIT - 1, true);
-    check_huge_part(huge, LIMIT + 20, LIMIT - 1, 21, true);
-    check_huge_part(huge, LIMIT + 20, LIMIT - 1, 22, false);
-    check_huge_part(huge, LIMIT + 20, LIMIT - 1, LIMIT - 1, false);
+    check_huge_part(huge, LIMIT + 16, 0, LIMIT - 1, true);
+    check_huge_part(huge, LIMIT + 16, LIMIT - 1, 17, true);
+    check_huge_part(huge, LIMIT + 16, LIMIT - 1, 18, false);
+    check_huge_part(huge, LIMIT + 16, LIMIT - 1, LIMIT - 1, false);
     CHECK(page_faults() - faults < 500);
     munmap(huge, room);
 }

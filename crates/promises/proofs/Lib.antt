@@ -14,3 +14,4 @@ pub mod Slated
 pub mod Demand3
 pub mod FromC
 pub mod Quality
+pub mod Reeled

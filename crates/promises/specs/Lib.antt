@@ -10,3 +10,4 @@ pub mod Order
 pub mod Runs
 pub mod Slated
 pub mod Quality
+pub mod Reels

@@ -69,7 +69,7 @@ unfolding join cutUp sumOf
 join-cut s at [] e = let q : at ≡ length s = omega arith in rw (q, drop-length)
 join-cut s at (l ∷ ls) e = rw (join-cut s (at + l) ls (omega arith), ← drop-drop l at s) (take-append-drop l (drop at s))
 
-lengths-cut : (s : List ℕ) (at : ℕ) (ls : List ℕ) → at + sumOf ls ≡ length s → map length (cutUp s at ls) ≡ ls
+pub lengths-cut : (s : List ℕ) (at : ℕ) (ls : List ℕ) → at + sumOf ls ≡ length s → map length (cutUp s at ls) ≡ ls
 unfolding cutUp sumOf
 lengths-cut s at [] e = refl
 lengths-cut s at (l ∷ ls) e =
@@ -219,22 +219,16 @@ pub writing-good : (s ls : List ℕ) (need room : ℕ) {v r : Ruling} {ok : Bool
 unfolding writing
 writing-good s ls need room g a b c = tried (table (judged (also (made (goodList s ls) g) refl none)) (table a (table (judged (also b c none)) last)))
 
-pub record Fine (s ls : List ℕ) (need room : ℕ) : Type 0 where
+record Fine (s ls : List ℕ) (need room : ℕ) : Type 0 where
   pub list : Listed s ls
   pub files : Good (listed s ls)
   pub fits : need ≤ room
 
-pub fine-is : (s ls : List ℕ) (need room : ℕ) → judge fine (writing s ls need room) ≡ fine → Fine s ls need room
+fine-is : (s ls : List ℕ) (need room : ℕ) → judge fine (writing s ls need room) ≡ fine → Fine s ls need room
 unfolding writing
 fine-is s ls need room e =
     let k = each-is _ (exactly (writing s ls need room) .0 e) in
     record { list = listed-is s ls (k .0 .0); files = all-good (listed s ls) (k .1 .0); fits = leb-true need room (k .1 .1 .0 .0) }
-
--- nothing else is refused
-pub fine-of : (s ls : List ℕ) (need room : ℕ) → Fine s ls need room → judge fine (writing s ls need room) ≡ fine
-unfolding writing
-fine-of s ls need room f =
-    exactly (writing s ls need room) .1 (each-of _ (holds (holds (listed-good s ls (f .list)) tt) (holds (good-all (listed s ls) (f .files)) (holds (holds (le-leb need room (f .fits)) tt) tt))))
 
 -- the room that the code asks for: that of a list that is bad anyway does not matter
 same-need : (s ls : List ℕ) (a b room : ℕ) → (goodList s ls ≡ true → a ≡ b) → judge fine (writing s ls a room) ≡ judge fine (writing s ls b room)

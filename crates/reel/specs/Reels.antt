@@ -94,9 +94,13 @@ entryIn s e = record { offset = four s e; length = four s (e + 4) }
 abbrev pub entryAt : List ℕ → ℕ → ℕ
 entryAt s k = trailerAt s + 8 * (k - 1)
 
--- there is an entry k, and what it points to lies wholly in the reel
+-- there is an entry k, it stands before the end, and what it points to lies wholly in the reel
 unfoldable pub lies : List ℕ → ℕ → Bool
-lies s k = leb 1 k && leb k (countOf s) && leb (four s (entryAt s k) + four s (entryAt s k + 4)) (length s)
+lies s k =
+    leb 1 k
+    && leb k (countOf s)
+    && leb (entryAt s k + 8 + length (ending (countOf s) (trailerAt s))) (length s)
+    && leb (four s (entryAt s k) + four s (entryAt s k + 4)) (length s)
 
 -- where file k stands, or zeros
 unfoldable pub placeOf : List ℕ → ℕ → Place

@@ -130,18 +130,20 @@ pub fn open(s: &[u8]) -> Opened
 
 // Where entry k stands.
 fn entry_at(s: &[u8], k: u16) -> usize
-    ensures { λ r. ⌜ r ≡ entryAt (now (s .entry)) k ⌝ }
+    ensures { λ r. ⌜ (r ≡ entryAt (now (s .entry)) k) × (r ≤ 281474976710656) ⌝ }
 {
     let to = trailer_at(s) as usize;
     if k < 1 { to } else { to + 8 * (k as usize - 1) }
 }
 
-// Where the file of a number stands, from 1 on: what its entry says if that lies wholly in the reel, and else zeros.
+// Where the file of a number stands, from 1 on: what its entry says, if both lie in the reel, and else zeros.
 pub fn place_of(s: &[u8], k: u16) -> Place
     ensures { λ r. ⌜ r ≡ placeOf (now (s .entry)) k ⌝ }
 {
-    let p = entry_in(s, entry_at(s, k));
-    if (1 <= k) & (k <= files_in(s)) & (p.offset as usize + p.length as usize <= s.len()) {
+    let e = entry_at(s, k);
+    let p = entry_in(s, e);
+    let to = p.offset as usize + p.length as usize;
+    if (1 <= k) & (k <= files_in(s)) & (e + 8 + 9 <= s.len()) & (to <= s.len()) {
         p
     } else {
         Place {

@@ -6,15 +6,15 @@ use Rattle.reel.proofs.place_of.Tie as tie
 
 returns : tie.Need-returns
 returns c =
-    let f = c .before .before .before in
-    let p = f .before in
-    place-there _ _ (p .entry-in .ensures) (p .before .entry-at .ensures) (f .files-in .ensures) (c .if1 .taken)
+    let f = c .before in
+    let p = f .before .before .before in
+    place-there _ _ (p .entry-in .ensures) (p .before .entry-at .ensures .0) (f .files-in .ensures) (c .if1 .taken)
 
 returns-2 : tie.Need-returns-2
 returns-2 c =
-    let f = c .before .before .before in
-    let p = f .before in
-    place-none _ _ (p .entry-in .ensures) (p .before .entry-at .ensures) (f .files-in .ensures) (c .if1 .left)
+    let f = c .before in
+    let p = f .before .before .before in
+    place-none _ _ (p .entry-in .ensures) (p .before .entry-at .ensures .0) (f .files-in .ensures) (c .if1 .left)
 
 pub place-of-spec : {M : Type 1} → statement M
 place-of-spec =
@@ -22,8 +22,10 @@ place-of-spec =
     (tie.spec
     (λ c κs. search needs)
     (λ c κs. search needs)
-    (λ c κs. search needs)
     (λ c. search needs)
+    (λ c. search needs)
+    (λ c. search needs)
+    (λ c κs. search needs)
     (λ c. search needs)
     (λ c. search needs)
     returns
