@@ -64,9 +64,7 @@ fn apart(reel: &[u8]) -> Option<(&[u8], &[u8])> {
 /// The lengths that a trailer's entries state, whatever else it states.
 fn lengths_in(trailer: &[u8]) -> Vec<u32> {
     let entries = trailer[..trailer.len() - BASE].chunks_exact(8);
-    entries
-        .map(|entry| u32::from_le_bytes([entry[4], entry[5], entry[6], entry[7]]))
-        .collect()
+    entries.map(|entry| four(entry, 4)).collect()
 }
 
 /// The first file that is not accepted answers. The lengths add up to the bytes.
@@ -100,22 +98,29 @@ fn put(bytes: &[u8], out: &mut [u8]) -> Result<(), Refusal> {
     Ok(())
 }
 
-/// Offset and length of a file, counted from 1, as its entry in any bytes states them; 0 and 0 if it has no entry or is
-/// not within the bytes. Every byte outside reads as 0.
+/// Offset and length of a file, counted from 1, as its entry in any bytes states them; 0 and 0 if the entry does not
+/// stand before the last nine of the bytes, or what it points to is not within them.
 pub fn part(reel: &[u8], number: u16) -> (u32, u32) {
     let size = reel.len() as u64;
-    let one = |at: u64| reel.get(at as usize).copied().unwrap_or(0);
-    let four = |at: u64| u32::from_le_bytes([one(at), one(at + 1), one(at + 2), one(at + 3)]);
-    let files = u16::from(one(size.saturating_sub(9)));
-    let entries = u64::from(four(size.saturating_sub(8)));
-    if !(1..=files).contains(&number) {
-        return (0, 0);
+    match entry(reel, number) {
+        Some((offset, length)) if u64::from(offset) + u64::from(length) <= size => (offset, length),
+        _ => (0, 0),
     }
-    let entry = entries + 8 * u64::from(number - 1);
-    let (offset, length) = (four(entry), four(entry + 4));
-    if u64::from(offset) + u64::from(length) <= size {
-        (offset, length)
-    } else {
-        (0, 0)
+}
+
+/// What the entry of a file states, where the trailer's own offset has it; none if not all of it stands there.
+fn entry(reel: &[u8], number: u16) -> Option<(u32, u32)> {
+    let (before, base) = reel.split_at(reel.len().checked_sub(BASE)?);
+    if !(1..=u16::from(base[0])).contains(&number) {
+        return None;
     }
+    let entries = u64::from(four(base, 1));
+    let begins = usize::try_from(entries + 8 * u64::from(number - 1)).ok()?;
+    let entry = before.get(begins..)?.get(..8)?;
+    Some((four(entry, 0), four(entry, 4)))
+}
+
+/// The number of four bytes there, the lowest first.
+fn four(bytes: &[u8], at: usize) -> u32 {
+    u32::from_le_bytes([bytes[at], bytes[at + 1], bytes[at + 2], bytes[at + 3]])
 }

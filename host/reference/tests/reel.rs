@@ -480,31 +480,106 @@ fn parts_of_any_bytes() {
             assert_eq!(parts, [(0, 0), told, (0, 0)]);
         }
     }
-    // the trailer's offset tells where the entry is: in the midst of the others, on the last four bytes, or outside
-    let bytes = |from: u32| spelt(&[7, 2], 1, from, b"\x03\0\0\0");
-    assert_eq!(part(&bytes(4), 1), (0, 0)); // 2 and 1 + 4 x 256
-    assert_eq!(part(&bytes(13), 1), (3, 0));
-    assert_eq!(part(&bytes(17), 1), (0, 0));
-    assert_eq!(part(&bytes(0xffff_ffff), 1), (0, 0));
-    // 14 bytes: the entry begins at 9, and of its length one byte is there
-    let bytes = [0, 0, 0, 0, 0, 1, 9, 0, 0, 0, 0, 0, 0, 6];
-    assert_eq!(part(&bytes, 1), (0, 6));
-    assert_eq!(part(&bytes, 2), (0, 0));
+    // the trailer's offset tells where the entry is: behind or before other bytes too
+    let entry = fours(&[7, 2]);
+    for (before, between) in [(0, 0), (3, 0), (0, 1), (5, 6), (300, 70)] {
+        let bytes = [vec![9; before], entry.clone(), vec![9; between]].concat();
+        let bytes = [bytes, spelt(&[], 1, before as u32, b"REEL")].concat();
+        assert_eq!(part(&bytes, 1), (7, 2));
+        assert_eq!(part(&bytes, 2), (0, 0));
+    }
 }
 
-/// With fewer than nine bytes, what stands nine or eight before the end is taken from the front.
+/// An entry that does not stand before the last nine bytes says nothing, whatever would be read there.
+#[test]
+fn parts_without_an_entry() {
+    // 17 bytes; from 9 it would be 9 and 3, and from 13 it would be 3 and what is outside
+    for from in [1, 4, 8, 9, 10, 13, 16, 17, 18, 0xffff_fff8, 0xffff_ffff] {
+        let bytes = spelt(&[7, 2], 1, from, b"\x03\0\0\0");
+        assert_eq!(part(&bytes, 1), (0, 0), "{from}");
+    }
+    // one byte within the last nine: with the number of files the length is 2 to the 24, and so many bytes there are
+    let one = |before: usize| {
+        let end = [0, 0, 0, 0, 0, 0, 0];
+        let base = spelt(&[], 1, before as u32, b"REEL");
+        [&vec![0; before][..], &end, &base].concat()
+    };
+    assert_eq!(part(&one(0), 1), (0, 0));
+    assert_eq!(part(&one(1 << 24), 1), (0, 0));
+    // two bytes within, where the length is 2 to the 16
+    let two = [vec![0; (1 << 16) + 6], spelt(&[], 1, 1 << 16, b"REEL")].concat();
+    assert_eq!(part(&two, 1), (0, 0));
+    // with one byte more it is there
+    let mut bytes = one(1 << 24);
+    bytes.insert((1 << 24) + 6, 1);
+    assert_eq!(bytes[(1 << 24)..][..9], [0, 0, 0, 0, 0, 0, 1, 0, 1]);
+    assert_eq!(part(&bytes, 1), (0, 1 << 16));
+    // the number of files may be more than there are entries
+    for before in [0, 1, 1_000] {
+        let end = spelt(&[3, 5], 255, before, b"\0\0\0\0");
+        let bytes = [vec![0; before as usize], end].concat();
+        assert_eq!(part(&bytes, 1), (3, 5));
+        for number in (2..=300).chain([0, 65_535]) {
+            assert_eq!(part(&bytes, number), (0, 0), "{before}, {number}");
+        }
+    }
+}
+
+/// In four bytes an entry far behind would be one at the front, or end there.
+#[test]
+fn parts_do_not_wrap() {
+    let entries: Vec<u32> = [3, 5].repeat(255);
+    for back in 1..=256_u32 {
+        let from = 0_u32.wrapping_sub(8 * back);
+        for bytes in [
+            spelt(&[3, 5], 255, from, b"REEL"),
+            spelt(&entries, 255, from, b"REEL"),
+        ] {
+            for number in 0..=256 {
+                assert_eq!(part(&bytes, number), (0, 0), "{from}, {number}");
+            }
+        }
+    }
+    let bytes = spelt(&entries, 255, 0, b"REEL");
+    assert_eq!(
+        [1, 255, 256].map(|n| part(&bytes, n)),
+        [(3, 5), (3, 5), (0, 0)]
+    );
+}
+
+/// Without room for an entry before the last nine there is no part.
 #[test]
 fn parts_of_a_few_bytes() {
-    assert_eq!(part(&[], 0), (0, 0));
-    assert_eq!(part(&[], 1), (0, 0));
-    assert_eq!(part(&[255], 1), (0, 0));
-    // one file told, the entry from 1 on: offset 0, length 4
-    assert_eq!(part(&[1, 0, 0, 0, 0, 4, 0], 1), (0, 4));
-    assert_eq!(part(&[1, 0, 0, 0, 0, 7, 0], 1), (0, 7));
-    assert_eq!(part(&[1, 0, 0, 0, 0, 8, 0], 1), (0, 0));
-    assert_eq!(part(&[1, 0, 0, 0, 0, 4, 1], 1), (0, 0));
-    assert_eq!(part(&[1, 0, 0, 0, 0, 4, 0], 2), (0, 0));
-    assert_eq!(part(&[1, 0, 0, 0, 0, 8, 0, 0], 1), (0, 8));
+    for bytes in [
+        &[][..],
+        &[1],
+        &[255],
+        &[1, 0, 0, 0, 0, 4, 0],
+        // 8 bytes, the first of which is 1
+        &[1, 0, 0, 0, 0, 0, 0, 0],
+        &[1, 0, 0, 0, 0, 8, 0, 0],
+        &[1, 0, 0, 0, 2, 0, 0, 0],
+        // 9, with the entry from 0, and from 1: 1 and 2
+        &[1, 0, 0, 0, 0, 0, 0, 0, 0],
+        &[1, 1, 0, 0, 0, 2, 0, 0, 0],
+        // 14, with the entry from 9: 0 and 6, though of the length one byte is there
+        &[0, 0, 0, 0, 0, 1, 9, 0, 0, 0, 0, 0, 0, 6],
+        // 16, with the entry from 0, where its last byte would be the number, and from 8: 8 and 3
+        &[1, 0, 0, 0, 2, 0, 0, 1, 0, 0, 0, 0, 0, 0, 0, 0],
+        &[0, 0, 0, 0, 0, 0, 0, 1, 8, 0, 0, 0, 3, 0, 0, 0],
+    ] {
+        for number in [0, 1, 2, 255, 256, 65_535] {
+            assert_eq!(part(bytes, number), (0, 0), "{bytes:?}");
+        }
+    }
+    // one byte more than 16
+    let bytes = [1, 0, 0, 0, 2, 0, 0, 0, 1, 0, 0, 0, 0, 0, 0, 0, 0];
+    assert_eq!([0, 1, 2].map(|n| part(&bytes, n)), [(0, 0), (1, 2), (0, 0)]);
+    for (entry, told) in [([0, 17], (0, 17)), ([17, 0], (17, 0)), ([1, 17], (0, 0))] {
+        let bytes = spelt(&entry, 1, 0, b"REEL");
+        assert_eq!(bytes.len(), 17);
+        assert_eq!(part(&bytes, 1), told);
+    }
 }
 
 /// What the proved library was asked, with the reference's answer.
