@@ -26,6 +26,10 @@ use Rattle.frame.proofs.Asking.{line-length, line-some}
 use Rattle.frame.proofs.line_of.Reads as line-of
 use Rattle.writer.specs.Given.{orders, lengths8, lengths9, lengths10, room, given}
 use Rattle.reader.specs.Reads.{rooms2, rooms3, filled}
+use Rattle.reel.specs.Ends.{countOf}
+use Rattle.reel.specs.Reels.{partsOf, filed, paperOpened, opened, trailerOf, reelOf}
+use Rattle.reel.specs.Reels as reels
+use Rattle.reel.specs.Writing.{listed, writing, wrote, written}
 use Rattle.plugin.specs.Plugin.{shownRuling}
 use Rattle.plugin_frames.specs.Strips.{slateIn, longMarks, goodMarks, lent, marksIn, openedC, offeredC, openMarks, openStrip, offerMarks, offerStrip, lineC}
 use Rattle.calendar.proofs.day_of.Reads as day-of
@@ -79,6 +83,19 @@ in-given v e n = refl
 in-rooms : (s : List ℕ) (rs : List Row) → inTable rs ≡ true → inTable (tables (checks s ∷ rs ∷ [])) ≡ true
 unfolding tables inTable
 in-rooms s rs h = in-append (checks s) _ (in-checks s) (in-append rs [] h refl)
+
+in-filed : (fs : List (List ℕ)) → inTable (filed fs) ≡ true
+unfolding filed tables inTable
+in-filed [] = refl
+in-filed (f ∷ fs) = in-append (checks f) (filed fs) (in-checks f) (in-filed fs)
+
+pub in-reel : (s : List ℕ) → inTable (reels.opening s) ≡ true
+unfolding reels.opening tables inTable allowed
+in-reel s = in-append (filed (partsOf s)) [] (in-filed (partsOf s)) refl
+
+pub in-writing : (s ls : List ℕ) (need room : ℕ) → inTable (writing s ls need room) ≡ true
+unfolding writing tables inTable allowed
+in-writing s ls need room = in-append (filed (listed s ls)) _ (in-filed (listed s ls)) refl
 
 -- ---- files
 

@@ -15,3 +15,4 @@ pub mod Demand3
 pub mod FromC
 pub mod Quality
 pub mod Reeled
+pub mod Reels

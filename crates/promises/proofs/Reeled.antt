@@ -12,16 +12,16 @@ use lib.ListN.{length, getD, take, drop, length-append}
 use lib.Seq.{take-at, drop-at, drop-drop}
 use Rattle.wire.specs.Wire.{Bytes, eqs, join}
 use Rattle.wire.proofs.Pieces.{num-span-lt}
-use Rattle.rules.specs.Rules.{Turned, turned, Ruling, fine, refused, checked, judge, tables, Reply, says, refuses, reply, after}
+use Rattle.rules.specs.Rules.{Turned, turned, Ruling, fine, refused, row, checked, judge, tables, Reply, says, refuses, reply, after}
 use Rattle.rules.proofs.Judge.{judge-append, judge-refused, each-is, exactly, each-of, holds, said}
 use Rattle.accept.specs.Checks.{checks}
 use Rattle.reel.specs.Ends.{big, most, letters, ending, countOf, trailerAt, goodEnd}
-use Rattle.reel.specs.Reels.{File, four, sound, partsOf, filed, Good, opening, opened, entryIn, entryAt, lies, placeOf}
+use Rattle.reel.specs.Reels.{File, four, trailerOf, trailerLength, reelOf, sound, partsOf, filed, Good, opening, opened, entryIn, entryAt, lies, placeOf}
 use Rattle.reel.specs.Writing.{cutUp, sumOf, listed, goodList, writing, wrote, written}
 use Rattle.reel.proofs.Reels.{Sound, sound-is, all-good}
 use Rattle.reel.proofs.Lists.{Has, one-reel, written-has, length-parts, length-all, good-all}
 use Rattle.reel.proofs.Places.{part-of, tiled-at, place-in, no-place}
-use Rattle.reel.proofs.Writing.{first-row, length-cut, join-cut, lengths-cut, listed-is, listed-good, written-is}
+use Rattle.reel.proofs.Writing.{first-row, length-cut, join-cut, lengths-cut, listed-is, listed-good, trailer-size, reel-size, reel-listed, written-is}
 use Rattle.promises.specs.Reels.{Fits, Laid, Reel, Handed, Own, Opening, Writing}
 
 -- ---- bytes and the parts that they are laid out as
@@ -165,7 +165,7 @@ module _ {s ls : List ℕ} (out bs : List ℕ) where
 
   wrote-own : (fs gs : List File) (f : File) (u : Turned) → Handed s ls (fs ++ (f ∷ gs)) → Fits (fs ++ (f ∷ gs)) → Good fs → Own f u → wrote s ls bs out ≡ refused u
   unfolding writing tables checked
-  wrote-own fs gs f u h t g e = rw (handed-good h t, handed-listed h) (judge-append fine (filed (fs ++ (f ∷ gs))) _ ∙ rw (first-bad fs gs f u g e) (judge-refused u _))
+  wrote-own fs gs f u h t g e = rw (handed-good h t, handed-listed h) (judge-append fine (filed (fs ++ (f ∷ gs))) _ ∙ rw (first-bad fs gs f u g e) (judge-refused u (row (leb (length bs) (length out)) 17 0 ∷ [])))
 
   wrote-room : {fs : List File} → Handed s ls fs → Fits fs → Good fs → length out < length bs → wrote s ls bs out ≡ refused (turned 17 0)
   unfolding writing tables checked
@@ -188,15 +188,37 @@ module _ {s ls : List ℕ} (out bs : List ℕ) where
       let g = good-fits s ls (k .0 .0) in
       (g .0, g .1, all-good (listed s ls) (k .1 .0))
 
-  kept : (u : Turned) → wrote s ls bs out ≡ refused u → written s ls bs out ≡ out
-  unfolding written after
-  kept u e = rw e
+-- the front of the output after a call that was fine, and the files with the trailer that was written after them
+abbrev pub front : List ℕ → List ℕ → List ℕ → List ℕ
+front files lengths left = take (length files + trailerLength (length lengths)) left
+
+abbrev pub sealed : List ℕ → List ℕ → List ℕ → List ℕ
+sealed files lengths left = files ++ take (trailerLength (length lengths)) left
+
+module _ (s ls out : List ℕ) where
+  pub front-reel : wrote s ls (reelOf (listed s ls)) out ≡ fine → Reel (front s ls (written s ls (reelOf (listed s ls)) out)) (listed s ls)
+  front-reel e =
+      let k = wrote-back out (reelOf (listed s ls)) e in
+      let g = listed-is s ls (handed-good (k .0) (k .1)) in
+      let is : front s ls (written s ls (reelOf (listed s ls)) out) ≡ reelOf (listed s ls) = rw (written-is s ls (reelOf (listed s ls)) out e) (take-at (reelOf (listed s ls)) _ _ (reel-size s ls (g .sum) (g .some) (g .few))) in
+      record { laid = record { is = is; fits = k .1 }; files = k .2 }
+
+  pub sealed-reel : wrote s ls (trailerOf (listed s ls)) out ≡ fine → Reel (sealed s ls (written s ls (trailerOf (listed s ls)) out)) (listed s ls)
+  sealed-reel e =
+      let k = wrote-back out (trailerOf (listed s ls)) e in
+      let g = listed-is s ls (handed-good (k .0) (k .1)) in
+      let is : sealed s ls (written s ls (trailerOf (listed s ls)) out) ≡ reelOf (listed s ls) = rw (written-is s ls (trailerOf (listed s ls)) out e, take-at (trailerOf (listed s ls)) (drop (length (trailerOf (listed s ls))) out) (trailerLength (length ls)) (trailer-size s ls (g .sum) (g .some) (g .few))) (sym (reel-listed s ls (g .sum))) in
+      record { laid = record { is = is; fits = k .1 }; files = k .2 }
+
+kept : (s ls bs out : List ℕ) (u : Turned) → wrote s ls bs out ≡ refused u → written s ls bs out ≡ out
+unfolding written after
+kept s ls bs out u e = rw e
 
 pub writings : (Says : Ruling → Type 0) (bytes : List File → List ℕ) (s ls out left : List ℕ) (v : Ruling) → v ≡ wrote s ls (bytes (listed s ls)) out → Says v
     → left ≡ written s ls (bytes (listed s ls)) out → Writing Says bytes s ls out left
 writings Says bytes s ls out left v e x o =
     let bs = bytes (listed s ls) in
-    let no : (u : Turned) → wrote s ls bs out ≡ refused u → Says (refused u) × (left ≡ out) = λ u w. (subst Says (e ∙ w) x, o ∙ kept out bs u w) in
+    let no : (u : Turned) → wrote s ls bs out ≡ refused u → Says (refused u) × (left ≡ out) = λ u w. (subst Says (e ∙ w) x, o ∙ kept s ls bs out u w) in
     record {
       good = λ fs h f g r.
           let q : bs ≡ bytes fs = ap bytes (handed-listed h) in

@@ -79,8 +79,8 @@ good-out marks = and-eq-true-iff _ _ .1 (eq-eqb _ 99 (length-tab (λ k. oneOf (g
 
 -- ---- a ruling of the paper's table is some verdict's
 
--- no number above 17 is the table's, nor is 0
-none-above : (n b : ℕ) → 17 < n → allowed (turned n b) ≡ false
+-- no number above 18 is the table's, nor is 0
+none-above : (n b : ℕ) → 18 < n → allowed (turned n b) ≡ false
 unfolding allowed
 none-above n b h =
     rw (
@@ -93,7 +93,7 @@ none-above n b h =
       ne-eqb n 11 (λ e. omega arith),
       ne-eqb n 12 (λ e. omega arith),
       le-leb 13 n (omega arith),
-      lt-leb n 17 h,
+      lt-leb n 18 h,
       ne-eqb n 3 (λ e. omega arith),
       le-leb 8 n (omega arith),
       lt-leb n 10 (omega arith),
@@ -101,10 +101,10 @@ none-above n b h =
 
 number-back : (n b : ℕ) → allowed (turned n b) ≡ true → numberOf (named n) ≡ n
 unfolding allowed named
-number-back n b e = go (leb n 17) refl
+number-back n b e = go (leb n 18) refl
   where
-    go : (t : Bool) → leb n 17 ≡ t → numberOf (named n) ≡ n
-    go true h = below (λ k. allowed (turned k b) ≡ true → numberOf (named k) ≡ k) 18 n (let l = leb-true n 17 h in omega arith) (
+    go : (t : Bool) → leb n 18 ≡ t → numberOf (named n) ≡ n
+    go true h = below (λ k. allowed (turned k b) ≡ true → numberOf (named k) ≡ k) 19 n (let l = leb-true n 18 h in omega arith) (
       λ _. refl,
       (
         λ _. refl,
@@ -138,7 +138,10 @@ number-back n b e = go (leb n 17) refl
                                     λ _. refl,
                                     (
                                       λ _. refl,
-                                      (λ z. absurd (let q : _≡_ {A = ℕ} 0 1 = cc in omega arith), tt),
+                                      (
+                                        λ _. refl,
+                                        (λ z. absurd (let q : _≡_ {A = ℕ} 0 1 = cc in omega arith), tt),
+                                      ),
                                     ),
                                   ),
                                 ),
@@ -156,7 +159,7 @@ number-back n b e = go (leb n 17) refl
         ),
       ),
     ) e
-    go false h = absurd (let z : true ≡ false = sym e ∙ none-above n b (leb-false n 17 h) in let q : _≡_ {A = ℕ} 0 1 = cc in omega arith)
+    go false h = absurd (let z : true ≡ false = sym e ∙ none-above n b (leb-false n 18 h) in let q : _≡_ {A = ℕ} 0 1 = cc in omega arith)
 
 paper-back : (r : Ruling) → ((u : Turned) → r ≡ refused u → allowed u ≡ true) → paper (verdictOf r) ≡ r
 unfolding paper verdictOf refusalOf
@@ -164,7 +167,7 @@ paper-back fine h = refl
 paper-back (refused (turned n b)) h = rw (number-back n b (h (turned n b) refl))
 
 -- what is shown as no refusal is none
-shown-fine : (r : Ruling) → ((u : Turned) → r ≡ refused u → allowed u ≡ true) → shownRuling r .refusal ≡ 0 → r ≡ fine
+pub shown-fine : (r : Ruling) → ((u : Turned) → r ≡ refused u → allowed u ≡ true) → shownRuling r .refusal ≡ 0 → r ≡ fine
 unfolding shownRuling
 shown-fine fine h e = refl
 shown-fine (refused (turned n b)) h e = absurd (none-fine n b (h (turned n b) refl) e)
