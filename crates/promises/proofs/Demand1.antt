@@ -2,7 +2,7 @@
 -- number stays as it was. Each theorem is of a function's own answers: `Post` is its contract as the source has it.
 -- That every input has one answer is the contracts' having no `requires`, and OneAnswer.
 -- Assumes nothing.
-use mathlib.Core.Path.{_≡_, refl, sym, _∙_}
+use mathlib.Core.Path.{_≡_, refl, sym, ap, _∙_}
 use mathlib.Core.Bool.{Bool, true, false, cond}
 use mathlib.Core.List.{List, [], _∷_}
 use Prim.Native.Nat.{ℕ, _+_, _*_, _≤_}
@@ -27,9 +27,10 @@ use Rattle.frame.proofs.line_of.Reads as line-of
 use Rattle.writer.specs.Given.{orders, lengths8, lengths9, lengths10, room, given}
 use Rattle.reader.specs.Reads.{rooms2, rooms3, filled}
 use Rattle.reel.specs.Ends.{countOf}
-use Rattle.reel.specs.Reels.{partsOf, filed, paperOpened, opened, trailerOf, reelOf}
+use Rattle.reel.specs.Reels.{partsOf, filed, paperOpened, opened}
 use Rattle.reel.specs.Reels as reels
-use Rattle.reel.specs.Writing.{listed, writing, wrote, written}
+use Rattle.reel.specs.Writing.{listed, writing, written}
+use Rattle.plugin.specs.declared.HsdAnswer.{HsdAnswer}
 use Rattle.plugin.specs.Plugin.{shownRuling}
 use Rattle.plugin_frames.specs.Strips.{slateIn, longMarks, goodMarks, lent, marksIn, openedC, offeredC, openMarks, openStrip, offerMarks, offerStrip, lineC}
 use Rattle.calendar.proofs.day_of.Reads as day-of
@@ -55,12 +56,19 @@ use Rattle.reader.proofs.read_times.Reads as read-times
 use Rattle.reader.proofs.read_errors.Reads as read-errors
 use Rattle.plugin.proofs.hsd_accept.Reads as hsd-accept
 use Rattle.plugin.proofs.hsd_frame_number.Reads as hsd-frame-number
+use Rattle.reel.proofs.check_reel.Reads as check-reel
+use Rattle.reel.proofs.open.Reads as open-reel
+use Rattle.reel.proofs.write.Reads as write-reel
+use Rattle.reel.proofs.seal.Reads as seal
+use Rattle.plugin_reels.proofs.hsd_reel_open.Reads as hsd-reel-open
+use Rattle.plugin_reels.proofs.hsd_reel_write.Reads as hsd-reel-write
+use Rattle.plugin_reels.proofs.hsd_reel_seal.Reads as hsd-reel-seal
 use Rattle.plugin_frames.proofs.hsd_open.Reads as hsd-open
 use Rattle.plugin_frames.proofs.hsd_offer.Reads as hsd-offer
 use Rattle.plugin_frames.proofs.hsd_line.Reads as hsd-line
 use Rattle.promises.specs.Bare.{Bare}
 use Rattle.promises.specs.Blocks.{allowed, allowedC, inTable, Onward}
-use Rattle.promises.proofs.Refusals.{refused-in, refuses-in, left, in-append, onward, shown-allowed, shown-left, none-left, file-allowed, number-allowed, bare, no-number}
+use Rattle.promises.proofs.Refusals.{refused-in, refuses-in, left, in-append, onward, shown-allowed, shown-left, none-left, file-allowed, number-allowed, bare, no-number, reel-allowed, no-files}
 
 -- ---- every table is the paper's
 
@@ -194,6 +202,51 @@ module _ (κ : _) (a : _) (r : _) (t : _) (p : line-of.Post κ a r t) where
 
   pub never-empty : seen ≡ true → 1 ≤ length (now r)
   never-empty e = rw p (line-some (a .0) (a .1 .0 .marks) (now (a .1 .1 .0)) (now (a .1 .1 .1 .0)) (a .1 .1 .1 .1 .0 .0) e)
+
+-- ---- reels
+
+pub of-check-reel : (κ : _) (a : _) (r : _) (t : _) → check-reel.Post κ a r t → Onward (paper (a .0)) (paper r)
+of-check-reel κ a r t p = onward (reels.opening (now (a .1 .0))) (in-reel (now (a .1 .0))) p
+
+pub of-open-reel : (κ : _) (a : _) (r : _) (t : _) → open-reel.Post κ a r t → (u : Turned) → paperOpened r ≡ refuses u → allowed u ≡ true
+unfolding opened
+of-open-reel κ a r t p u e = refuses-in (reels.opening (now (a .0))) (in-reel (now (a .0))) (countOf (now (a .0))) u (sym p ∙ e)
+
+pub of-write-reel : (κ : _) (a : _) (r : _) (t : _) → write-reel.Post κ a r t → (u : Turned) → paper r ≡ refused u
+    → (allowed u ≡ true) × (now (t .1 .1 .0) ≡ now (a .1 .1 .0))
+unfolding written
+of-write-reel κ a r t p u e =
+    let q = sym (p .0) ∙ e in
+    (refused-in (writing _ _ _ _) (in-writing _ _ _ _) u q, p .1 ∙ left _ u _ _ q)
+
+pub of-seal : (κ : _) (a : _) (r : _) (t : _) → seal.Post κ a r t → (u : Turned) → paper r ≡ refused u
+    → (allowed u ≡ true) × (now (t .1 .1 .0) ≡ now (a .1 .1 .0))
+unfolding written
+of-seal κ a r t p u e =
+    let q = sym (p .0) ∙ e in
+    (refused-in (writing _ _ _ _) (in-writing _ _ _ _) u q, p .1 ∙ left _ u _ _ q)
+
+pub of-hsd-reel-open : (κ : _) (a : _) (r : _) (t : _) → hsd-reel-open.Post κ a r t → (allowedC (r .refusal) (r .block) ≡ true) × ((r .refusal ≡ 0 → ⊥) → r .files ≡ 0)
+unfolding opened
+of-hsd-reel-open κ a r t p =
+    let s = now (a .0) in
+    rw p (reel-allowed (reels.opening s) (in-reel s) _ _ refl, no-files (judge fine (reels.opening s)) _)
+
+pub of-hsd-reel-write : (κ : _) (a : _) (r : _) (t : _) → hsd-reel-write.Post κ a r t
+    → (allowedC (r .refusal) (r .block) ≡ true) × ((r .refusal ≡ 0 → ⊥) → now (t .1 .1 .0) ≡ now (a .1 .1 .0))
+unfolding written
+of-hsd-reel-write κ a r t p = (
+  rw (p .0) (shown-allowed (writing _ _ _ _) (in-writing _ _ _ _) _ refl),
+  λ h. p .1 ∙ shown-left _ _ _ (λ z. h (ap (λ (x : HsdAnswer). x .refusal) (p .0) ∙ z)),
+)
+
+pub of-hsd-reel-seal : (κ : _) (a : _) (r : _) (t : _) → hsd-reel-seal.Post κ a r t
+    → (allowedC (r .refusal) (r .block) ≡ true) × ((r .refusal ≡ 0 → ⊥) → now (t .1 .1 .0) ≡ now (a .1 .1 .0))
+unfolding written
+of-hsd-reel-seal κ a r t p = (
+  rw (p .0) (shown-allowed (writing _ _ _ _) (in-writing _ _ _ _) _ refl),
+  λ h. p .1 ∙ shown-left _ _ _ (λ z. h (ap (λ (x : HsdAnswer). x .refusal) (p .0) ∙ z)),
+)
 
 -- ---- the writer's output, and the slices that the reader fills
 

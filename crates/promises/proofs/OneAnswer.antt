@@ -7,6 +7,7 @@ use Rattle.rules.proofs.Paper.{paper-one}
 use Rattle.calendar.proofs.Paper.{paperDay-one, paperSlot-one, paperFrame-one}
 use Rattle.accept.proofs.Paper.{paperAnswer-one}
 use Rattle.slate.proofs.Paper.{paperSlate-one}
+use Rattle.reel.proofs.Paper.{paperOpened-one}
 use Rattle.wire.proofs.byte_at.Reads as byte-at
 use Rattle.wire.proofs.left.Reads as left
 use Rattle.wire.proofs.rest.Reads as rest
@@ -86,6 +87,14 @@ use Rattle.samples.proofs.make.Reads as make-sample
 use Rattle.frame.proofs.open.Reads as opening
 use Rattle.frame.proofs.offer.Reads as offering
 use Rattle.frame.proofs.line_of.Reads as line-of
+use Rattle.reel.proofs.check_reel.Reads as check-reel
+use Rattle.reel.proofs.open.Reads as open-reel
+use Rattle.reel.proofs.place_of.Reads as place-in-reel
+use Rattle.reel.proofs.file_of.Reads as file-of
+use Rattle.reel.proofs.trailer_length.Reads as trailer-length
+use Rattle.reel.proofs.write.Reads as write-reel
+use Rattle.reel.proofs.seal.Reads as seal
+use Rattle.plugin.proofs.answer_of.Reads as answer-of
 use Rattle.plugin.proofs.hsd_accept.Reads as hsd-accept
 use Rattle.plugin.proofs.hsd_read_count.Reads as hsd-read-count
 use Rattle.plugin.proofs.hsd_reading.Reads as hsd-reading
@@ -96,6 +105,11 @@ use Rattle.plugin.proofs.hsd_valid_bits.Reads as hsd-valid-bits
 use Rattle.plugin_frames.proofs.hsd_open.Reads as hsd-open
 use Rattle.plugin_frames.proofs.hsd_offer.Reads as hsd-offer
 use Rattle.plugin_frames.proofs.hsd_line.Reads as hsd-line
+use Rattle.plugin_reels.proofs.hsd_reel_open.Reads as hsd-reel-open
+use Rattle.plugin_reels.proofs.hsd_reel_part.Reads as hsd-reel-part
+use Rattle.plugin_reels.proofs.hsd_reel_trailer.Reads as hsd-reel-trailer
+use Rattle.plugin_reels.proofs.hsd_reel_write.Reads as hsd-reel-write
+use Rattle.plugin_reels.proofs.hsd_reel_seal.Reads as hsd-reel-seal
 use Rattle.header.proofs.a_of.Reads as a-of
 use Rattle.header.proofs.b_of.Reads as b-of
 use Rattle.header.proofs.c_of.Reads as c-of
@@ -468,6 +482,47 @@ hsd-line-one = (
   λ κ a x y s t p q. p .0 ∙ sym (q .0),
   λ κ a x y s t p q. p .1 ∙ sym (q .1),
 )
+
+-- ---- reels
+
+pub check-reel-one : One (λ κ x s. x) check-reel.Post
+check-reel-one κ a x y s t p q = paper-one x y (p ∙ sym q)
+
+pub open-reel-one : One (λ κ x s. x) open-reel.Post
+open-reel-one κ a x y s t p q = paperOpened-one x y (p ∙ sym q)
+
+pub place-in-reel-one : One (λ κ x s. x) place-in-reel.Post
+place-in-reel-one κ a x y s t p q = p ∙ sym q
+
+pub file-of-one : One (λ κ x s. now x) file-of.Post
+file-of-one κ a x y s t p q = p ∙ sym q
+
+pub trailer-length-one : One (λ κ x s. x) trailer-length.Post
+trailer-length-one κ a x y s t p q = p ∙ sym q
+
+pub write-reel-one : One (λ κ x s. x) write-reel.Post × One (λ κ x s. now (s .1 .1 .0)) write-reel.Post
+write-reel-one = (λ κ a x y s t p q. paper-one x y (p .0 ∙ sym (q .0)), λ κ a x y s t p q. p .1 ∙ sym (q .1))
+
+pub seal-one : One (λ κ x s. x) seal.Post × One (λ κ x s. now (s .1 .1 .0)) seal.Post
+seal-one = (λ κ a x y s t p q. paper-one x y (p .0 ∙ sym (q .0)), λ κ a x y s t p q. p .1 ∙ sym (q .1))
+
+pub answer-of-one : One (λ κ x s. x) answer-of.Post
+answer-of-one κ a x y s t p q = p ∙ sym q
+
+pub hsd-reel-open-one : One (λ κ x s. x) hsd-reel-open.Post
+hsd-reel-open-one κ a x y s t p q = p ∙ sym q
+
+pub hsd-reel-part-one : One (λ κ x s. x) hsd-reel-part.Post
+hsd-reel-part-one κ a x y s t p q = p ∙ sym q
+
+pub hsd-reel-trailer-one : One (λ κ x s. x) hsd-reel-trailer.Post
+hsd-reel-trailer-one κ a x y s t p q = p ∙ sym q
+
+pub hsd-reel-write-one : One (λ κ x s. x) hsd-reel-write.Post × One (λ κ x s. now (s .1 .1 .0)) hsd-reel-write.Post
+hsd-reel-write-one = (λ κ a x y s t p q. p .0 ∙ sym (q .0), λ κ a x y s t p q. p .1 ∙ sym (q .1))
+
+pub hsd-reel-seal-one : One (λ κ x s. x) hsd-reel-seal.Post × One (λ κ x s. now (s .1 .1 .0)) hsd-reel-seal.Post
+hsd-reel-seal-one = (λ κ a x y s t p q. p .0 ∙ sym (q .0), λ κ a x y s t p q. p .1 ∙ sym (q .1))
 
 -- ---- samples
 

@@ -4,7 +4,7 @@
 -- Assumes nothing.
 use mathlib.Core.Path.{_≡_, refl, sym, ap, subst, _∙_}
 use mathlib.Core.Bool.{true}
-use mathlib.Core.List.{List, [], _∷_, _++_, map}
+use mathlib.Core.List.{List, [], _∷_, _++_, append-nil, map}
 use Prim.Native.Nat.{ℕ, _+_, _-_, _≤_, _<_}
 use native.Mathlib.Omega.{arith}
 use lib.ListN.{length, getD, take, drop, length-append}
@@ -18,7 +18,7 @@ use Rattle.reel.specs.declared.Opened.the-variants.{Files}
 use Rattle.reel.specs.Ends.{ending, countOf}
 use Rattle.reel.specs.Reels.{File, entries, trailerOf, trailerLength, reelOf, partsOf, Good, paperOpened, opened, fileOf}
 use Rattle.reel.specs.Reels as reels
-use Rattle.reel.specs.Writing.{listed, wrote}
+use Rattle.reel.specs.Writing.{listed, writing, wrote}
 use Rattle.reel.proofs.Paper.{paperOpened-one}
 use Rattle.reel.proofs.Ends.{length-ending}
 use Rattle.reel.proofs.Lists.{length-all, length-entries}
@@ -29,6 +29,7 @@ use Rattle.reel.proofs.file_of.Reads as file-of
 use Rattle.reel.proofs.trailer_length.Reads as trailer-length
 use Rattle.reel.proofs.write.Reads as write
 use Rattle.reel.proofs.seal.Reads as seal
+use Rattle.plugin.specs.declared.HsdAnswer.{HsdAnswer}
 use Rattle.plugin.specs.Plugin.{shownRuling}
 use Rattle.plugin_reels.specs.declared.HsdReel.{HsdReel}
 use Rattle.plugin_reels.specs.Reels.{shownReel}
@@ -40,7 +41,7 @@ use Rattle.plugin_reels.proofs.hsd_reel_seal.Reads as hsd-seal
 use Rattle.promises.specs.Blocks.{allowed}
 use Rattle.promises.specs.Reels.{Fits, Laid, Reel, Handed, Own, Opening, Writing}
 use Rattle.promises.proofs.Demand1.{in-reel, in-writing}
-use Rattle.promises.proofs.Refusals.{refuses-in, none-fine}
+use Rattle.promises.proofs.Refusals.{refused-in, refuses-in, none-fine}
 use Rattle.promises.proofs.Runs.{shown-fine}
 use Rattle.promises.proofs.Reeled as reeled
 use Rattle.promises.proofs.Reeled.{opened-good, opened-back, placed, after-last, zeroth, handed-listed, front, sealed, front-reel, sealed-reel, writings, openings}
@@ -189,3 +190,57 @@ module _ (κ : _) (a : _) (t : _) (p : seal.Post κ a Fine t) (fs : List File) (
   pub sealed-files : (κ′ : _) (b : _) (r : _) (u : _) → file-of.Post κ′ b r u → now (b .0) ≡ sealed (now (a .0)) (now (a .1 .0)) (now (t .1 .1 .0))
       → 1 ≤ b .1 .0 → b .1 .0 ≤ length fs → now r ≡ getD fs (b .1 .0 - 1) []
   sealed-files = file (back seals-reel fs h .laid)
+
+-- ---- the same from C: a call that shows no refusal, and then the parts by their numbers
+
+in-wrote : (s ls bs out : List ℕ) (u : Turned) → wrote s ls bs out ≡ refused u → allowed u ≡ true
+in-wrote s ls bs out u e = refused-in (writing s ls (length bs) (length out)) (in-writing s ls (length bs) (length out)) u e
+
+module _ (κ : _) (a : _) (x : _) (t : _) (p : hsd-write.Post κ a x t) (z : x .refusal ≡ 0) (fs : List File) (h : Handed (now (a .0)) (now (a .1 .0)) fs) where
+  written-reel-c : Reel (front (now (a .0)) (now (a .1 .0)) (now (t .1 .1 .0))) (listed (now (a .0)) (now (a .1 .0)))
+  written-reel-c =
+      let s = now (a .0) in
+      let ls = now (a .1 .0) in
+      let bs = reelOf (listed s ls) in
+      let f = shown-fine (wrote s ls bs (now (a .1 .1 .0))) (in-wrote s ls bs (now (a .1 .1 .0))) (sym (ap (λ (y : HsdAnswer). y .refusal) (p .0)) ∙ z) in
+      rw (p .1) (front-reel (now (a .0)) (now (a .1 .0)) (now (a .1 .1 .0)) f)
+
+  pub same-number-c : (κ′ : _) (b : _) (r : _) (u : _) → hsd-open.Post κ′ b r u → now (b .0) ≡ front (now (a .0)) (now (a .1 .0)) (now (t .1 .1 .0))
+      → r ≡ record { refusal = 0; block = 0; files = length fs }
+  same-number-c = number-is-c written-reel-c fs h
+
+  pub same-files-c : (κ′ : _) (b : _) (r : _) (u : _) → hsd-part.Post κ′ b r u → now (b .0) ≡ front (now (a .0)) (now (a .1 .0)) (now (t .1 .1 .0))
+      → 1 ≤ b .1 .0 → b .1 .0 ≤ length fs
+      → (r .offset + r .length ≤ length (front (now (a .0)) (now (a .1 .0)) (now (t .1 .1 .0))))
+      × (take (r .length) (drop (r .offset) (front (now (a .0)) (now (a .1 .0)) (now (t .1 .1 .0)))) ≡ getD fs (b .1 .0 - 1) [])
+  same-files-c = part-c (back written-reel-c fs h .laid)
+
+module _ (κ : _) (a : _) (x : _) (t : _) (p : hsd-seal.Post κ a x t) (z : x .refusal ≡ 0) (fs : List File) (h : Handed (now (a .0)) (now (a .1 .0)) fs) where
+  sealed-reel-c : Reel (sealed (now (a .0)) (now (a .1 .0)) (now (t .1 .1 .0))) (listed (now (a .0)) (now (a .1 .0)))
+  sealed-reel-c =
+      let s = now (a .0) in
+      let ls = now (a .1 .0) in
+      let bs = trailerOf (listed s ls) in
+      let f = shown-fine (wrote s ls bs (now (a .1 .1 .0))) (in-wrote s ls bs (now (a .1 .1 .0))) (sym (ap (λ (y : HsdAnswer). y .refusal) (p .0)) ∙ z) in
+      rw (p .1) (sealed-reel (now (a .0)) (now (a .1 .0)) (now (a .1 .1 .0)) f)
+
+  pub sealed-number-c : (κ′ : _) (b : _) (r : _) (u : _) → hsd-open.Post κ′ b r u → now (b .0) ≡ sealed (now (a .0)) (now (a .1 .0)) (now (t .1 .1 .0))
+      → r ≡ record { refusal = 0; block = 0; files = length fs }
+  sealed-number-c = number-is-c sealed-reel-c fs h
+
+  pub sealed-files-c : (κ′ : _) (b : _) (r : _) (u : _) → hsd-part.Post κ′ b r u → now (b .0) ≡ sealed (now (a .0)) (now (a .1 .0)) (now (t .1 .1 .0))
+      → 1 ≤ b .1 .0 → b .1 .0 ≤ length fs
+      → (r .offset + r .length ≤ length (sealed (now (a .0)) (now (a .1 .0)) (now (t .1 .1 .0))))
+      × (take (r .length) (drop (r .offset) (sealed (now (a .0)) (now (a .1 .0)) (now (t .1 .1 .0)))) ≡ getD fs (b .1 .0 - 1) [])
+  sealed-files-c = part-c (back sealed-reel-c fs h .laid)
+
+-- ---- the trailer, byte for byte: two files, of 1,523 and of 70,000 bytes
+
+joined : (f g : File) → length (join (f ∷ g ∷ [])) ≡ length f + length g
+unfolding join
+joined f g = length-append f (g ++ []) ∙ rw (append-nil g)
+
+pub by-the-byte : (f g : File) → length f ≡ 1523 → length g ≡ 70000
+    → trailerOf (f ∷ g ∷ []) ≡ 0 ∷ 0 ∷ 0 ∷ 0 ∷ 243 ∷ 5 ∷ 0 ∷ 0 ∷ 243 ∷ 5 ∷ 0 ∷ 0 ∷ 112 ∷ 17 ∷ 1 ∷ 0 ∷ 2 ∷ 99 ∷ 23 ∷ 1 ∷ 0 ∷ 82 ∷ 69 ∷ 69 ∷ 76 ∷ []
+unfolding trailerOf entries ending digits lows
+by-the-byte f g m n = rw (joined f g, m, n)

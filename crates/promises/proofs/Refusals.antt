@@ -13,6 +13,7 @@ use lib.IntN.{ℤ, pos}
 use Rattle.accept.specs.declared.Facts.{Facts}
 use Rattle.plugin.specs.Plugin.{shownRuling, shownFile, shownFrame}
 use Rattle.plugin_frames.specs.Strips.{copiedOf, copyOf}
+use Rattle.plugin_reels.specs.Reels.{shownReel}
 use Rattle.promises.specs.Bare.{Bare}
 use Rattle.promises.specs.Blocks.{allowed, allowedC, inTable, Onward}
 
@@ -123,3 +124,14 @@ pub no-number : (v : Ruling) (x : ℤ) → (shownFrame (reply v x) .refusal ≡ 
 unfolding shownFrame reply
 no-number fine x h = absurd (h refl)
 no-number (refused (turned n b)) x h = refl
+
+-- the same of a reel's answer
+pub reel-allowed : (rs : List Row) → inTable rs ≡ true → (v : Ruling) (x : ℕ) → v ≡ judge fine rs → allowedC (shownReel (reply v x) .refusal) (shownReel (reply v x) .block) ≡ true
+unfolding shownReel reply
+reel-allowed rs h fine x e = refl
+reel-allowed rs h (refused (turned n b)) x e = rw (refused-in rs h (turned n b) (sym e)) (or-true (eqb n 0))
+
+pub no-files : (v : Ruling) (x : ℕ) → (shownReel (reply v x) .refusal ≡ 0 → ⊥) → shownReel (reply v x) .files ≡ 0
+unfolding shownReel reply
+no-files fine x h = absurd (h refl)
+no-files (refused (turned n b)) x h = refl
