@@ -5,6 +5,7 @@
 
 #include <getopt.h>
 #include <stdbool.h>
+#include <stdio.h>
 #include <sys/stat.h>
 
 #include "hsd.h"
@@ -18,15 +19,27 @@ int quality(int count, char **words);
 int frame(int count, char **words);
 int reading(int count, char **words);
 
-/* A file's bytes, in memory of the command's own; bytes is never NULL. */
+/* A file's bytes, in memory of the command's own; of an open file, bytes is never NULL. */
 typedef struct File {
     uint8_t *bytes;
-    size_t length;
+    size_t length, room;
+    bool is_lent; /* by the system: zeros that can only be read */
 } File;
 
-/* Reads all of a file, and complains of one that cannot be read, or that changes meanwhile. */
+/* One byte more than any reel has. */
+#define BEYOND_REELS ((size_t)1 << 32)
+
+/* Reads all of a file or a reel, and complains of one that cannot be read, or that changes meanwhile. Of what is too long to be
+   one, the length is enough to be refused. */
 bool open_file(const char *name, File *file);
+bool open_reel(const char *name, File *reel);
 void close_file(File *file);
+
+/* The same with a file's bytes after those that are there, which are fewer than BEYOND_REELS, as they will be at most. */
+bool add_file(const char *name, File *file);
+
+/* Room for so many bytes, or errno says why not. */
+bool make_room(File *file, size_t room);
 
 /* Judges each file that the words name and has a line said about it, of NULL where it cannot be read; the worst status. */
 int each_file(int count, char **words, void (*say_line)(const char *name, const HsdFile *found));
@@ -52,11 +65,30 @@ typedef struct Frame {
 typedef struct Picture {
     const Frame *frame;
     const uint16_t *leader;
-    bool progress;
 } Picture;
 
 bool parse_slate(const char *text, HsdSlate *slate);
-bool write_picture(const char *name, Picture picture);
+bool write_picture(const char *name, Picture picture, bool progress);
+
+/* An output: what it is filled with, and by whom. The function that fills it is told whether to show progress, which it is
+   not where that would stand within the output. */
+typedef struct Output {
+    const char *name;
+    bool (*fill)(FILE *to, const void *what, bool progress);
+    const void *what;
+    bool progress;
+    bool keeps;  /* a file that is there already stays */
+    bool itself; /* the name is a file's own: no link is followed, and no device or pipe written to */
+} Output;
+
+/* Writes an output as a whole, or complains. */
+bool write_output(const Output *output);
+
+/* Whether nothing is there that the output keeps; else complains. So it can be told early: writing sees to it again. */
+bool is_free(const Output *output);
+
+/* Whether a name is the command's own standard error. */
+bool is_error_stream(const char *name);
 
 /* Standard output, at once; one that cannot be written to ends the command. */
 void say(const char *format, ...) __attribute__((format(printf, 1, 2)));

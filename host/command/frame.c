@@ -114,7 +114,7 @@ static int fill(Frame *frame, const Wish *wish, const uint16_t *leader, int coun
             show_progress("file", (unsigned)i + 1, (unsigned)count);
     }
     say_record(frame);
-    if (!write_picture(wish->out, (Picture){frame, leader, wish->progress}))
+    if (!write_picture(wish->out, (Picture){frame, leader}, wish->progress))
         return UNWRITTEN;
     if (!readable)
         return UNUSABLE;

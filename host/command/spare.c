@@ -1,4 +1,4 @@
-/* No file that is read is written to: neither by the picture nor by what the command says. */
+/* No file that is read is written to: neither by an output nor by what the command says. */
 #include <fcntl.h>
 #include <unistd.h>
 
