@@ -18,6 +18,7 @@ int list(int count, char **words);
 int quality(int count, char **words);
 int frame(int count, char **words);
 int reading(int count, char **words);
+int reel(int count, char **words);
 
 /* A file's bytes, in memory of the command's own; of an open file, bytes is never NULL. */
 typedef struct File {
@@ -29,13 +30,13 @@ typedef struct File {
 /* One byte more than any reel has. */
 #define BEYOND_REELS ((size_t)1 << 32)
 
-/* Reads all of a file or a reel, and complains of one that cannot be read, or that changes meanwhile. Of what is too long to be
-   one, the length is enough to be refused. */
+/* Reads all of a file or a reel, and complains of one that cannot be read, or that changes meanwhile. One that
+   is too long to be accepted is not read to its end. */
 bool open_file(const char *name, File *file);
 bool open_reel(const char *name, File *reel);
 void close_file(File *file);
 
-/* The same with a file's bytes after those that are there, which are fewer than BEYOND_REELS, as they will be at most. */
+/* The same, with the file's bytes after those that are there: BEYOND_REELS in all, at most. */
 bool add_file(const char *name, File *file);
 
 /* Room for so many bytes, or errno says why not. */
@@ -43,6 +44,9 @@ bool make_room(File *file, size_t room);
 
 /* Judges each file that the words name and has a line said about it, of NULL where it cannot be read; the worst status. */
 int each_file(int count, char **words, void (*say_line)(const char *name, const HsdFile *found));
+
+/* The listing's line about a file, which is empty for NULL. */
+void say_listed(const char *name, const HsdFile *found);
 
 /* Whether nothing that is read is written to as well, by the output (NULL for none) or by what the command says; else complains. */
 bool spares_inputs(const char *output, int count, char **names);
@@ -92,6 +96,7 @@ bool is_error_stream(const char *name);
 
 /* Standard output, at once; one that cannot be written to ends the command. */
 void say(const char *format, ...) __attribute__((format(printf, 1, 2)));
+void say_refusal(uint8_t refusal, uint8_t block);
 void say_refused(const char *name, uint8_t refusal, uint8_t block);
 const char *refusal_name(uint8_t refusal);
 

@@ -2,7 +2,7 @@
 #include "command.h"
 
 /* Every name has its line, in order, so that the lines can be told apart: that of an unreadable file is empty. */
-static void say_line(const char *name, const HsdFile *f)
+void say_listed(const char *name, const HsdFile *f)
 {
     (void)name;
     if (!f)
@@ -17,5 +17,5 @@ static void say_line(const char *name, const HsdFile *f)
 
 int list(int count, char **words)
 {
-    return each_file(count, words, say_line);
+    return each_file(count, words, say_listed);
 }

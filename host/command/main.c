@@ -12,10 +12,13 @@ static const char overview[] =
     "panulimbe quality FILE..                              what quality flag 1 of each file says\n"
     "panulimbe frame --slate SLATE -o PICTURE FILE..       a frame put together from its segments\n"
     "panulimbe reading FILE LINE COLUMN                    what one count reads as\n"
+    "panulimbe reel write -o REEL FILE..                   whole files in one reel\n"
+    "panulimbe reel list REEL                              one line about each file of a reel\n"
+    "panulimbe reel extract REEL [-d FOLDER] [NUMBER..]    the files of a reel, or some of them\n"
     "\n"
     "'panulimbe SUBCOMMAND --help' says more. Exit status: 0 all is well; 1 something was refused or is\n"
     "missing; 2 wrong usage, or a file that cannot be read or changed meanwhile; 3 an output that cannot be\n"
-    "written.\n";
+    "written, or is there already and must not be replaced.\n";
 
 static const char list_help[] =
     "panulimbe list FILE..\n"
@@ -70,15 +73,51 @@ static const char reading_help[] =
     "Exit status: 0 the count was read; 1 the file is refused; 2 wrong usage, no such line or column, or a\n"
     "file that cannot be read or changed meanwhile; 3 standard output cannot be written.\n";
 
+static const char reel_help[] =
+    "panulimbe reel write -o REEL [--force] [--progress] FILE..\n"
+    "panulimbe reel list REEL\n"
+    "panulimbe reel extract REEL [-d FOLDER] [--force] [--progress] [NUMBER..]\n"
+    "\n"
+    "A reel is 1 to 255 whole files end to end and a list of them, smaller than 2 to the 32 bytes.\n"
+    "  write      writes the reel of the files, in the order given. Each refused file is named with its refusal,\n"
+    "             and then nothing is written; nor is it where the files have no reel, which is said of REEL\n"
+    "  list       prints one line about each file of a reel, as 'panulimbe list' does\n"
+    "  extract    writes the files of a reel, or those of these numbers, counted from 1, and prints their names\n"
+    "             as they come to be: that in the file's header, and .3 after it if an earlier file of the\n"
+    "             reel has the same name and this one is the third\n"
+    "A refused reel is not listed, and nothing is extracted from it:\n"
+    "  NAME: refused 18 REEL, block 0                         these bytes are no reel\n"
+    "  NAME: part 2, byte 1536: refused 1 SHORT, block 1      its second file, which begins there, is refused\n"
+    "\n"
+    "  -o, --output REEL      a file of this name appears when the reel is whole; a device, a pipe or\n"
+    "                         /dev/stdout is written as it is\n"
+    "  -d, --directory FOLDER the folder for the files, which must be there; otherwise the working folder\n"
+    "  --force                replace files that are there already; otherwise they stay, and nothing is written\n"
+    "  --progress             show on standard error how far it is, even if that is no terminal\n"
+    "\n"
+    "Exit status: 0 all is well; 1 a file or the reel was refused; 2 wrong usage, no such number, an output that\n"
+    "is one of the inputs, or a file that cannot be read or changed meanwhile; 3 standard output or an output\n"
+    "cannot be written, or the output is there already.\n";
+
 static const struct {
     const char *name, *help;
+    int words; /* that it has: --help may follow each of them */
     int (*run)(int count, char **words);
 } subcommands[] = {
-    {"list", list_help, list},
-    {"quality", quality_help, quality},
-    {"frame", frame_help, frame},
-    {"reading", reading_help, reading},
+    {"list", list_help, 1, list},
+    {"quality", quality_help, 1, quality},
+    {"frame", frame_help, 1, frame},
+    {"reading", reading_help, 1, reading},
+    {"reel", reel_help, 2, reel},
 };
+
+static bool asks_help(int count, char **words, int last)
+{
+    for (int i = 1; i <= last && i < count; i++)
+        if (strcmp(words[i], "--help") == 0)
+            return true;
+    return false;
+}
 
 /* A standard file that is closed is held by what can be neither read nor written, so that no other file takes its number. */
 static void hold_standard_files(void)
@@ -94,14 +133,14 @@ int main(int count, char **words)
     /* a closed pipe and a file that may grow no further are errors of the write, and are told as such */
     signal(SIGPIPE, SIG_IGN);
     signal(SIGXFSZ, SIG_IGN);
-    if (count >= 2 && strcmp(words[1], "--help") == 0) {
+    if (asks_help(count, words, 1)) {
         say("%s", overview);
         return GOOD;
     }
     for (size_t i = 0; count >= 2 && i < sizeof subcommands / sizeof *subcommands; i++) {
         if (strcmp(words[1], subcommands[i].name) != 0)
             continue;
-        if (count < 3 || strcmp(words[2], "--help") != 0)
+        if (!asks_help(count - 1, words + 1, subcommands[i].words))
             return subcommands[i].run(count - 1, words + 1);
         say("%s", subcommands[i].help);
         return GOOD;

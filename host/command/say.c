@@ -60,13 +60,20 @@ const char *refusal_name(uint8_t refusal)
     case HSD_OTHER_SHOT: return "OTHER SHOT";
     case HSD_ALREADY: return "ALREADY";
     case HSD_ROOM: return "ROOM";
+    case HSD_REEL: return "REEL";
     default: return "UNKNOWN";
     }
 }
 
+void say_refusal(uint8_t refusal, uint8_t block)
+{
+    say("refused %u %s, block %u\n", refusal, refusal_name(refusal), block);
+}
+
 void say_refused(const char *name, uint8_t refusal, uint8_t block)
 {
-    say("%s: refused %u %s, block %u\n", shown(name), refusal, refusal_name(refusal), block);
+    say("%s: ", shown(name));
+    say_refusal(refusal, block);
 }
 
 void complain(const char *about, const char *what)

@@ -46,7 +46,8 @@ static void check_refusals(void)
     CHECK(strcmp(refusal_name(HSD_OTHER_SHOT), "OTHER SHOT") == 0);
     CHECK(strcmp(refusal_name(HSD_ALREADY), "ALREADY") == 0);
     CHECK(strcmp(refusal_name(HSD_ROOM), "ROOM") == 0);
-    for (unsigned refusal = HSD_ROOM + 1; refusal < 256; refusal++)
+    CHECK(strcmp(refusal_name(HSD_REEL), "REEL") == 0);
+    for (unsigned refusal = HSD_REEL + 1; refusal < 256; refusal++)
         CHECK(strcmp(refusal_name((uint8_t)refusal), "UNKNOWN") == 0);
 }
 
