@@ -36,7 +36,8 @@ bool open_file(const char *name, File *file);
 bool open_reel(const char *name, File *reel);
 void close_file(File *file);
 
-/* The same, with the file's bytes after those that are there: BEYOND_REELS in all, at most. */
+/* The same, with the file's bytes after those that are there, BEYOND_REELS in all at most. A file that is complained of may
+   leave some of its bytes there. */
 bool add_file(const char *name, File *file);
 
 /* Room for so many bytes, or errno says why not. */

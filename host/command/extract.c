@@ -6,7 +6,7 @@
 
 #include "reel.h"
 
-/* Where a file has its name, and how long that is, zeros included: the library accepts no file whose name could lead elsewhere. */
+/* Where a file has its name, and how long that is, zeros included. No accepted file has a name that leads elsewhere. */
 enum { LABEL = 114, LABEL_LENGTH = 128 };
 
 /* The most files that a reel has. */

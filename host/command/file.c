@@ -92,16 +92,12 @@ static const char *read_file(int from, size_t enough, File *file)
     return NULL;
 }
 
-/* On a fault the bytes are as they were. */
 static bool add_bytes(const char *name, size_t enough, File *file)
 {
-    size_t before = file->length;
     int from = open(name, O_RDONLY | O_CLOEXEC);
     const char *fault = from < 0 ? strerror(errno) : read_file(from, enough, file);
-    if (fault) {
+    if (fault)
         complain(name, fault);
-        file->length = before;
-    }
     if (from >= 0)
         close(from);
     return !fault;

@@ -28,7 +28,8 @@ bool parse_reel_wish(int count, char **words, char letter, const char *name, Ree
     return true;
 }
 
-/* Of a reel that is refused for one of its files: the first that is. There is one, since what lies outside is none either. */
+/* Of a reel that is refused for one of its files, the first such file. The search ends at any rate: beyond the last file there
+   are no bytes, and no bytes are refused too. */
 static uint16_t find_refused(const File *reel)
 {
     uint16_t number = 0;

@@ -5,14 +5,14 @@
 
 #include "reel.h"
 
-/* The files as they are read: those that are there stand end to end. */
+/* The files, end to end. */
 typedef struct Roll {
     File bytes;
     uint32_t *lengths;
     size_t count;
 } Roll;
 
-/* Adds a file and judges it. One with which the reel is too long is not all there: it is the library's to refuse them all. */
+/* Adds a file and judges it. One with which the reel gets too long may be cut short, and the library will refuse them all. */
 static int add_judged(const char *name, File *bytes, uint32_t *length)
 {
     size_t start = bytes->length;
@@ -28,7 +28,7 @@ static int add_judged(const char *name, File *bytes, uint32_t *length)
     return REFUSED;
 }
 
-/* Adds all files, or as many as can be told from a reel that is too long. After a fault the rest are judged, and not kept. */
+/* Adds all files, or as many as make the reel too long. After a fault nothing will be written: the rest are judged, not kept. */
 static int gather(Roll *roll, char **names, bool progress)
 {
     int worst = GOOD;
