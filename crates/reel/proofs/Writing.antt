@@ -2,15 +2,16 @@
 -- Assumes nothing.
 use mathlib.Core.Path.{_≡_, refl, sym, ap, _∙_}
 use mathlib.Core.Bool.{Bool, true, false, _&&_}
-use mathlib.Core.List.{List, [], _∷_, _++_, map}
-use Prim.Native.Nat.{ℕ, suc, _+_, _*_, _≤_, _<_}
+use mathlib.Core.List.{List, [], _∷_, _++_, append-assoc, append-nil, map}
+use Prim.Native.Nat.{ℕ, suc, _+_, _-_, _*_, _≤_, _<_}
 use native.Mathlib.Nat.{zero-add}
 use native.Mathlib.Numerals.{add-one}
 use native.Mathlib.Omega.{arith}
 use borrow.Author.Tests.{eq-eqb, ne-eqb, eqb-true, leb-true, ltb-true, le-leb, lt-leb, lt-ltb}
 use lib.Dec.{leb, ltb, eqb}
 use lib.ListN.{length, getD, take, drop, length-append, length-drop, take-append-drop, drop-of-length-le}
-use lib.Seq.{drop-cons, drop-drop, length-take-le, drop-length}
+use borrow.Rule.Slice.PartMut.{putMid, post-is}
+use lib.Seq.{sets-eq, drop-cons, drop-drop, length-take-le, drop-length}
 use Rattle.wire.specs.Wire.{lows, digits, join, store, Stored}
 use Rattle.wire.proofs.Numbers.{length-digits}
 use Rattle.wire.proofs.Stores.{store-append, front}
@@ -56,6 +57,36 @@ entries-next ls i from {l} {m} {out} {e} h a b =
 pub entries-end : (ls : List ℕ) (i : ℕ) (l : List ℕ) (e from : ℕ) → length ls ≤ i → store l e (entries from (drop i ls)) ≡ l
 unfolding entries store
 entries-end ls i l e from h = rw (drop-of-length-le ls h)
+
+-- a block of w bytes by way of memory of its own, l; and what is lent of the output for it, which comes back
+whole-stored : (w : ℕ) (l p : List ℕ) {b : List ℕ} → length l ≡ w → length p ≡ w → b ≡ store l 0 p → b ≡ p
+whole-stored w l p m n e =
+    let f : Stored w l 0 p _ = record { long = n; is = e } in
+    let z : drop w l ≡ [] = drop-of-length-le l {i = w} (omega arith) in
+    front f (omega arith) ∙ rw (z, append-nil)
+
+pub block-stored : (w at : ℕ) (files out l : List ℕ) {b m : List ℕ} → at + w ≤ length files → at + w ≤ length out → length l ≡ w
+    → b ≡ store l 0 (take (at + w - at) (drop at files)) → m ≡ store (take (at + w - at) (drop at out)) 0 b → putMid at (at + w - at) out m ≡ store out at (take w (drop at files))
+unfolding store
+block-stored w at files out l h k n e q =
+    let d : at + w - at ≡ w = omega arith in
+    let p : length (take w (drop at files)) ≡ w = length-take-le w (drop at files) (rw length-drop (omega arith)) in
+    let o : length (take w (drop at out)) ≡ w = length-take-le w (drop at out) (rw length-drop (omega arith)) in
+    let b = whole-stored w l (take w (drop at files)) n p (rw d at e) in
+    let m = whole-stored w (take w (drop at out)) (take w (drop at files)) o p (rw (d, b) at q) in
+    let r : drop (at + w) out ≡ drop (at + length (take w (drop at files))) out = rw p in
+    ap (putMid at (at + w - at) out) m
+    ∙ ap (λ (z : List ℕ). take at out ++ (take w (drop at files) ++ z)) (post-is at (at + w) out (omega arith) ∙ r)
+    ∙ sym (append-assoc (take at out) (take w (drop at files)) _)
+    ∙ sym (sets-eq (take w (drop at files)) out at (rw p k))
+
+-- a block of w bytes, and then what is left
+pub files-next : (w : ℕ) (files out : List ℕ) (at : ℕ) {m : List ℕ} → at + w ≤ length files → m ≡ store out at (take w (drop at files))
+    → store out at (drop at files) ≡ store m (at + w) (drop (at + w) files)
+files-next w files out at h q =
+    let n : length (take w (drop at files)) ≡ w = length-take-le w (drop at files) (rw length-drop (omega arith)) in
+    let d : drop at files ≡ take w (drop at files) ++ drop (at + w) files = sym (take-append-drop w (drop at files)) ∙ rw drop-drop in
+    rw q (ap (store out at) d ∙ store-append out at w (take w (drop at files)) (drop (at + w) files) n)
 
 -- ---- the files that lengths cut out
 

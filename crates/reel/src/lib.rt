@@ -6,7 +6,7 @@ ghost use mathlib.Core.Path.{_≡_};
 ghost use Prim.Native.Nat.{_+_, _-_, _*_, _≤_, _<_};
 ghost use mathlib.Core.Bool.{true};
 ghost use Rattle.wire.specs.Wire.{store};
-ghost use lib.ListN.{length};
+ghost use lib.ListN.{length, take, drop};
 ghost use Rattle.rules.specs.Rules.{paper, fine, judge};
 ghost use Rattle.reel.specs.Ends.{big, most, ending, countOf, trailerAt, goodEnd};
 ghost use Rattle.reel.specs.Reels.{entries, trailerOf, trailerLength, reelOf, tiled, sound, part, partsFrom, filed, opening, paperOpened, opened, entryIn, entryAt, placeOf, fileOf};
@@ -273,6 +273,30 @@ fn put_trailer(out: &mut [u8], at: usize, files: &[u8], lengths: &[u32])
     put_ending(out, at + 8 * n, n as u16, files.len() as u32);
 }
 
+// Stores a block of the files where it stands. It goes by way of memory of its own, which overlaps nothing: so the compiler sees a
+// plain copy of so many bytes, and has it made by memmove.
+fn put_block(out: &mut [u8], at: usize, files: &[u8])
+    requires { ⌜ (at + 16384 ≤ length (now out)) × (at + 16384 ≤ length (now files)) ⌝ }
+    ensures { λ _. ⌜ now (out .exit) ≡ store (now (out .entry)) at (take 16384 (drop at (now (files .entry)))) ⌝ }
+{
+    let mut block = [0u8; 16384];
+    let end = at + 16384;
+    wire::put(&mut block, 0, &files[at..end]);
+    wire::put(&mut out[at..end], 0, &block);
+}
+
+// Stores the files at the front.
+fn put_files(out: &mut [u8], files: &[u8])
+    ensures { λ _. ⌜ now (out .exit) ≡ store (now (out .entry)) 0 (now (files .entry)) ⌝ }
+{
+    let mut at = 0;
+    while (files.len() - at >= 16384) & (out.len() - at >= 16384) {
+        put_block(out, at, files);
+        at += 16384;
+    }
+    wire::put(out, at, wire::rest(files, at));
+}
+
 // Writes the reel of files that stand end to end, or says why not and leaves every byte as it was.
 pub fn write(files: &[u8], lengths: &[u32], out: &mut [u8]) -> Verdict
     ensures { λ r. ⌜ paper r ≡ wrote (now (files .entry)) (now (lengths .entry)) (reelOf (listed (now (files .entry)) (now (lengths .entry)))) (now (out .entry)) ⌝ }
@@ -282,7 +306,7 @@ pub fn write(files: &[u8], lengths: &[u32], out: &mut [u8]) -> Verdict
     match v {
         Verdict::Refused(t) => Verdict::Refused(t),
         Verdict::Fine => {
-            wire::put(out, 0, files);
+            put_files(out, files);
             put_trailer(out, files.len(), files, lengths);
             Verdict::Fine
         }

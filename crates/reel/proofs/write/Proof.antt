@@ -32,7 +32,7 @@ unfolding paper
 returns-2 c =
     let k = c .before .before .before .before .before .before .before .before .before .before in
     let e = ap paper (sym (c .before .before .before .before .before .before .before .before .enum-told .given .1)) ∙ judged k in
-    (e, written-fine _ _ _ _ (sym e) (reel-stored _ _ (bounds _ _ (fine-good _ _ _ _ (sym e)) .2) _ (c .before .before .before .before .before .before .put .ensures) (c .before .before .put-trailer .ensures)))
+    (e, written-fine _ _ _ _ (sym e) (reel-stored _ _ (bounds _ _ (fine-good _ _ _ _ (sym e)) .2) _ (c .before .before .before .before .before .before .put-files .ensures) (c .before .before .put-trailer .ensures)))
 
 pub write-spec : {M : Type 1} → statement M
 write-spec = tie.close (tie.spec check-list-requires (λ c. search needs) (λ c. search needs) (λ c κs. search needs) put-trailer-requires returns (λ c. search needs) returns-2)
