@@ -97,9 +97,11 @@ bool is_error_stream(const char *name);
 
 /* Standard output, at once; one that cannot be written to ends the command. */
 void say(const char *format, ...) __attribute__((format(printf, 1, 2)));
-void say_refusal(uint8_t refusal, uint8_t block);
 void say_refused(const char *name, uint8_t refusal, uint8_t block);
 const char *refusal_name(uint8_t refusal);
+
+/* A refusal's number, name and block: good until the next call. */
+const char *refusal_words(uint8_t refusal, uint8_t block);
 
 /* Standard error. */
 void complain(const char *about, const char *what);

@@ -48,8 +48,8 @@ static void say_reel_refused(const char *name, const File *reel, HsdReel answer)
         return;
     }
     uint16_t number = find_refused(reel);
-    say("%s: part %u, byte %u: ", shown(name), number, hsd_reel_part(reel->bytes, reel->length, number).offset);
-    say_refusal(answer.refusal, answer.block);
+    HsdPart part = hsd_reel_part(reel->bytes, reel->length, number);
+    say("%s: part %u, byte %u: %s\n", shown(name), number, part.offset, refusal_words(answer.refusal, answer.block));
 }
 
 int judge_reel(const char *name, File *reel, uint16_t *files)

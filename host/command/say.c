@@ -65,15 +65,16 @@ const char *refusal_name(uint8_t refusal)
     }
 }
 
-void say_refusal(uint8_t refusal, uint8_t block)
+const char *refusal_words(uint8_t refusal, uint8_t block)
 {
-    say("refused %u %s, block %u\n", refusal, refusal_name(refusal), block);
+    static char words[64];
+    snprintf(words, sizeof words, "refused %u %s, block %u", refusal, refusal_name(refusal), block);
+    return words;
 }
 
 void say_refused(const char *name, uint8_t refusal, uint8_t block)
 {
-    say("%s: ", shown(name));
-    say_refusal(refusal, block);
+    say("%s: %s\n", shown(name), refusal_words(refusal, block));
 }
 
 void complain(const char *about, const char *what)
