@@ -1,7 +1,7 @@
 -- What is said of reels and written as them, in document 02's words: laws of the definitions that the contracts cite.
 -- Assumes nothing.
 use mathlib.Core.Path.{_≡_, refl, sym, ap, subst, _∙_}
-use mathlib.Core.Bool.{Bool, true, false, and-eq-true-iff}
+use mathlib.Core.Bool.{Bool, true, false, _&&_, and-eq-true-iff}
 use mathlib.Core.List.{List, [], _∷_, _++_, map}
 use Prim.Native.Nat.{ℕ, _+_, _*_, _-_, _≤_, _<_}
 use native.Mathlib.Nat.{zero-add}
@@ -117,6 +117,21 @@ after-last {s} l k h = let c = laid-has l .count in no-place s k (rw (le-leb 1 k
 pub zeroth : (s : List ℕ) → placeOf s 0 ≡ record { offset = 0; length = 0 }
 unfolding lies
 zeroth s = no-place s 0 refl
+
+-- whatever the bytes are, what is shown lies within them
+shown-within : (s : List ℕ) (k : ℕ) → lies s k ≡ true → four s (entryAt s k) + four s (entryAt s k + 4) ≤ length s
+unfolding lies
+shown-within s k e =
+    let last = leb (four s (entryAt s k) + four s (entryAt s k + 4)) (length s) in
+    let before = leb 1 k && leb k (countOf s) && leb (entryAt s k + 8 + length (ending (countOf s) (trailerAt s))) (length s) in
+    leb-true (four s (entryAt s k) + four s (entryAt s k + 4)) (length s) (and-eq-true-iff before last .0 e .1)
+
+pub within : (s : List ℕ) (k : ℕ) → placeOf s k .offset + placeOf s k .length ≤ length s
+within s k = go (lies s k) refl
+  where
+    go : (b : Bool) → lies s k ≡ b → placeOf s k .offset + placeOf s k .length ≤ length s
+    go true e = rw (place-in s k e) (shown-within s k e)
+    go false e = rw (no-place s k e) (omega arith)
 
 -- ---- a list as it is handed over
 

@@ -121,6 +121,13 @@ no-zeroth κ a r t p e = p ∙ rw (e, zeroth (now (a .0)))
 pub no-zeroth-c : (κ : _) (a : _) (r : _) (t : _) → hsd-part.Post κ a r t → a .1 .0 ≡ 0 → r ≡ record { offset = 0; length = 0 }
 no-zeroth-c κ a r t p e = p ∙ rw (e, zeroth (now (a .0)))
 
+-- whatever the bytes are, a part that is shown lies wholly within them
+pub within : (κ : _) (a : _) (r : _) (t : _) → place-of.Post κ a r t → r .offset + r .length ≤ length (now (a .0))
+within κ a r t p = rw p (reeled.within (now (a .0)) (a .1 .0))
+
+pub within-c : (κ : _) (a : _) (r : _) (t : _) → hsd-part.Post κ a r t → r .offset + r .length ≤ length (now (a .0))
+within-c κ a r t p = rw p (reeled.within (now (a .0)) (a .1 .0))
+
 -- ---- writing: what every list is told, and what stands in the output then
 
 pub writes : (κ : _) (a : _) (r : _) (t : _) → write.Post κ a r t → Writing (λ v. paper r ≡ v) reelOf (now (a .0)) (now (a .1 .0)) (now (a .1 .1 .0)) (now (t .1 .1 .0))
