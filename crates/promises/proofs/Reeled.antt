@@ -3,7 +3,7 @@
 use mathlib.Core.Path.{_≡_, refl, sym, ap, subst, _∙_}
 use mathlib.Core.Bool.{Bool, true, false, _&&_, and-eq-true-iff}
 use mathlib.Core.List.{List, [], _∷_, _++_, map}
-use Prim.Native.Nat.{ℕ, _+_, _*_, _-_, _≤_, _<_}
+use Prim.Native.Nat.{ℕ, _+_, _-_, _≤_, _<_}
 use native.Mathlib.Nat.{zero-add}
 use native.Mathlib.Omega.{arith}
 use borrow.Author.Tests.{le-leb, lt-leb, leb-true}
@@ -15,10 +15,10 @@ use Rattle.wire.proofs.Pieces.{num-span-lt}
 use Rattle.rules.specs.Rules.{Turned, turned, Ruling, fine, refused, row, checked, judge, tables, Reply, says, refuses, reply, after}
 use Rattle.rules.proofs.Judge.{judge-append, judge-refused, each-is, exactly, each-of, holds, said}
 use Rattle.accept.specs.Checks.{checks}
-use Rattle.reel.specs.Ends.{big, most, letters, ending, countOf, trailerAt, goodEnd}
+use Rattle.reel.specs.Ends.{letters, ending, countOf, trailerAt, goodEnd}
 use Rattle.reel.specs.Reels.{File, four, trailerOf, trailerLength, reelOf, sound, partsOf, filed, Good, opening, opened, entryIn, entryAt, lies, placeOf}
 use Rattle.reel.specs.Writing.{cutUp, sumOf, listed, goodList, writing, wrote, written}
-use Rattle.reel.proofs.Reels.{Sound, sound-is, all-good}
+use Rattle.reel.proofs.Reels.{sound-is, all-good}
 use Rattle.reel.proofs.Lists.{Has, one-reel, written-has, length-parts, length-all, good-all}
 use Rattle.reel.proofs.Places.{part-of, tiled-at, place-in, no-place}
 use Rattle.reel.proofs.Writing.{first-row, length-cut, join-cut, lengths-cut, listed-is, listed-good, trailer-size, reel-size, reel-listed, written-is}

@@ -10,17 +10,16 @@ use native.Mathlib.Omega.{arith}
 use lib.ListN.{length, getD, take, drop, length-append}
 use denote.Ref.{now}
 use Rattle.wire.specs.Wire.{Bytes, digits, lows, join}
-use Rattle.rules.specs.Rules.{Turned, turned, Ruling, paper, fine, refused, judge, Reply, says, refuses}
+use Rattle.rules.specs.Rules.{Turned, turned, paper, fine, refused, judge, Reply, says, refuses}
 use Rattle.rules.specs.declared.Verdict.the-variants.{Fine}
 use Rattle.accept.specs.Checks.{checks}
 use Rattle.accept.proofs.verdict.Reads as verdict
 use Rattle.reel.specs.declared.Opened.the-variants.{Files}
 use Rattle.reel.specs.Ends.{ending, countOf}
-use Rattle.reel.specs.Reels.{File, entries, trailerOf, trailerLength, reelOf, partsOf, Good, paperOpened, opened, fileOf}
+use Rattle.reel.specs.Reels.{File, entries, trailerOf, trailerLength, reelOf, partsOf, paperOpened, opened, fileOf}
 use Rattle.reel.specs.Reels as reels
 use Rattle.reel.specs.Writing.{listed, writing, wrote}
 use Rattle.reel.proofs.Paper.{paperOpened-one}
-use Rattle.reel.proofs.Ends.{length-ending}
 use Rattle.reel.proofs.Lists.{length-all, length-entries}
 use Rattle.reel.proofs.Writing.{length-none, length-many, length-some}
 use Rattle.reel.proofs.open.Reads as opening

@@ -1,24 +1,24 @@
 -- A sound trailer and what parts are written as: the one is the other. Assumes nothing.
 use mathlib.Core.Path.{_≡_, refl, sym, ap, _∙_}
-use mathlib.Core.Bool.{Bool, true}
+use mathlib.Core.Bool.{true}
 use mathlib.Core.List.{List, [], _∷_, _++_, append-assoc, append-nil, map}
 use Prim.Native.Nat.{ℕ, zero, suc, _+_, _*_, _-_, _≤_, _<_}
 use native.Mathlib.Nat.{zero-add, add-zero}
 use native.Mathlib.Omega.{arith}
 use borrow.Author.Tests.{eqb-true, eq-eqb, lt-ltb}
 use lib.Dec.{eqb}
-use lib.ListN.{length, take, drop, length-append, length-drop}
-use lib.Seq.{take-at, drop-at, drop-drop, length-take-le, drop-length}
+use lib.ListN.{length, drop, length-append, length-drop}
+use lib.Seq.{take-at, drop-at, drop-drop, length-take-le}
 use Rattle.wire.specs.Wire.{Bytes, span, digits, join}
 use Rattle.wire.proofs.Spans.{span-add}
 use Rattle.wire.proofs.Pieces.{digits-span}
 use Rattle.wire.proofs.Numbers.{length-digits}
-use Rattle.rules.specs.Rules.{fine, judge, tables}
+use Rattle.rules.specs.Rules.{tables}
 use Rattle.rules.proofs.Judge.{Holds, holds, exactly, each-of}
 use Rattle.accept.specs.Checks.{checks}
-use Rattle.reel.specs.Ends.{big, most, ending, countOf, trailerAt, goodEnd}
+use Rattle.reel.specs.Ends.{big, most, ending, countOf, trailerAt}
 use Rattle.reel.specs.Reels.{File, four, entries, trailerOf, reelOf, tiled, sound, part, partsFrom, partsOf, filed, Good}
-use Rattle.reel.proofs.Ends.{num-mid, span-rest, Back, end-back, end-is}
+use Rattle.reel.proofs.Ends.{num-mid, span-rest, end-back, end-is}
 use Rattle.reel.proofs.Reels.{both, Sound, reel-is}
 
 -- ---- each list has one reel

@@ -1,7 +1,7 @@
 -- Parts by their numbers. Assumes nothing.
-use mathlib.Core.Path.{_≡_, refl, sym, ap, _∙_}
+use mathlib.Core.Path.{_≡_, sym, ap, _∙_}
 use mathlib.Core.Bool.{true, false, _&&_}
-use mathlib.Core.List.{List, [], _∷_}
+use mathlib.Core.List.{List, []}
 use Prim.Native.Nat.{ℕ, zero, suc, _+_, _*_, _-_, _≤_, _<_}
 use native.Mathlib.Nat.{add-zero}
 use native.Mathlib.Omega.{arith}
@@ -9,7 +9,7 @@ use borrow.Author.Tests.{eqb-true}
 use lib.Dec.{leb, eqb}
 use lib.ListN.{length, getD}
 use Rattle.reel.specs.declared.Place.{Place}
-use Rattle.reel.specs.Ends.{countOf, trailerAt, ending}
+use Rattle.reel.specs.Ends.{countOf}
 use Rattle.reel.specs.Reels.{four, tiled, part, partsFrom, entryIn, entryAt, lies, placeOf}
 use Rattle.reel.proofs.Ends.{length-ending}
 use Rattle.reel.proofs.Reels.{both}

@@ -1,22 +1,19 @@
 -- A reel that opens: its files end to end, and then the trailer.
 -- Assumes nothing.
-use mathlib.Core.Path.{_≡_, refl, sym, ap, _∙_}
-use mathlib.Core.Bool.{Bool, true, false, _&&_, and-eq-true-iff}
+use mathlib.Core.Path.{_≡_, sym, ap}
+use mathlib.Core.Bool.{Bool, true, _&&_, and-eq-true-iff}
 use mathlib.Core.List.{List, [], _∷_, _++_, append-assoc, append-nil}
-use Prim.Native.Nat.{ℕ, zero, suc, _+_, _*_, _-_, _/_, _≤_, _<_}
-use native.Mathlib.Nat.{zero-add, add-zero}
-use native.Mathlib.Omega.{arith}
-use borrow.Author.Tests.{leb-true, ltb-true, eqb-true}
-use lib.Dec.{leb, ltb, eqb}
-use lib.ListN.{length, getD, take, drop, length-append, length-take, length-drop, take-append-drop}
-use lib.Seq.{drop-drop, getD-drop}
-use Rattle.wire.specs.Wire.{span, num, low, eqs, join}
-use Rattle.wire.proofs.Equal.{eqs-eq}
-use Rattle.rules.specs.Rules.{fine, judge, tables}
+use Prim.Native.Nat.{ℕ, zero, suc, _+_, _*_, _-_, _<_}
+use borrow.Author.Tests.{ltb-true, eqb-true}
+use lib.Dec.{ltb, eqb}
+use lib.ListN.{length, take, drop, take-append-drop}
+use lib.Seq.{drop-drop}
+use Rattle.wire.specs.Wire.{join}
+use Rattle.rules.specs.Rules.{tables}
 use Rattle.rules.proofs.Judge.{Holds, exactly, each-is}
 use Rattle.accept.specs.Checks.{checks}
 use Rattle.reel.specs.Ends.{big, ending, countOf, trailerAt, goodEnd}
-use Rattle.reel.specs.Reels.{File, four, tiled, sound, part, partsFrom, partsOf, filed, Good, opening}
+use Rattle.reel.specs.Reels.{File, four, tiled, sound, partsFrom, partsOf, filed, Good}
 
 pub both : (a b : Bool) → (a && b) ≡ true → (a ≡ true) × (b ≡ true)
 both a b e = and-eq-true-iff a b .0 e

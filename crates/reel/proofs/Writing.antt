@@ -19,13 +19,13 @@ use Rattle.rules.specs.Rules.{Turned, turned, paper, paperOf, Row, test, Ruling
 use Rattle.rules.specs.declared.Refusal.{Refusal}
 use Rattle.rules.specs.declared.Verdict.{Verdict}
 use Rattle.rules.specs.declared.Verdict.the-variants.{Refused}
-use Rattle.rules.proofs.Judge.{judge-append, judge-refused, holds, exactly, each-is, each-of, judged, also, none, tried, table, last}
+use Rattle.rules.proofs.Judge.{judge-append, judge-refused, exactly, each-is, judged, also, none, tried, table, last}
 use Rattle.accept.specs.Checks.{checks}
 use Rattle.reel.specs.Ends.{big, most, letters, ending}
-use Rattle.reel.specs.Reels.{File, entries, trailerOf, trailerLength, reelOf, filed, Good}
+use Rattle.reel.specs.Reels.{entries, trailerOf, trailerLength, reelOf, filed, Good}
 use Rattle.reel.specs.Writing.{cutUp, sumOf, listed, goodList, writing, wrote, written}
 use Rattle.reel.proofs.Reels.{both, all-good}
-use Rattle.reel.proofs.Lists.{length-entries, good-all}
+use Rattle.reel.proofs.Lists.{length-entries}
 use Rattle.reel.proofs.Ends.{length-ending}
 
 -- ---- one turn of each loop

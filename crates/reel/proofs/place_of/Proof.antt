@@ -1,4 +1,3 @@
-use denote.Ref.{now}
 use Rattle.reel.proofs.Places.{place-there, place-none}
 use borrow.Author.Needs.{needs}
 use Rattle.reel.proofs.place_of.Statement.{statement}

@@ -1,11 +1,10 @@
 -- `seal`: a refusal leaves all as it was; what fits is stored.
 use mathlib.Core.Path.{_≡_, sym, ap, _∙_}
-use mathlib.Core.Bool.{true}
 use denote.Ref.{now}
 use Rattle.rules.specs.Rules.{paper}
 use Rattle.reel.specs.Reels.{trailerOf}
 use Rattle.reel.specs.Writing.{listed, wrote}
-use Rattle.reel.proofs.Writing.{bounds, trailer-need, fine-good, written-refused, written-fine}
+use Rattle.reel.proofs.Writing.{trailer-need, fine-good, written-refused, written-fine}
 use native.Mathlib.Omega.{arith}
 use borrow.Author.Needs.{needs}
 use Rattle.reel.proofs.seal.Statement.{statement}

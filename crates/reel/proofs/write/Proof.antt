@@ -1,6 +1,5 @@
 -- `write`: a refusal leaves all as it was; what fits is stored.
 use mathlib.Core.Path.{_≡_, sym, ap, _∙_}
-use mathlib.Core.Bool.{true}
 use denote.Ref.{now}
 use Rattle.rules.specs.Rules.{paper}
 use Rattle.reel.specs.Reels.{reelOf}
