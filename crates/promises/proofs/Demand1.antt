@@ -26,10 +26,9 @@ use Rattle.frame.proofs.Asking.{line-length, line-some}
 use Rattle.frame.proofs.line_of.Reads as line-of
 use Rattle.writer.specs.Given.{orders, lengths8, lengths9, lengths10, room, given}
 use Rattle.reader.specs.Reads.{rooms2, rooms3, filled}
-use Rattle.reel.specs.Ends.{countOf}
-use Rattle.reel.specs.Reels.{partsOf, filed, paperOpened, opened}
+use Rattle.reel.specs.Reels.{filed, paperOpened, opened}
 use Rattle.reel.specs.Reels as reels
-use Rattle.reel.specs.Writing.{listed, writing, written}
+use Rattle.reel.specs.Writing.{writing, written}
 use Rattle.plugin.specs.declared.HsdAnswer.{HsdAnswer}
 use Rattle.plugin.specs.Plugin.{shownRuling}
 use Rattle.plugin_frames.specs.Strips.{slateIn, longMarks, goodMarks, lent, marksIn, openedC, offeredC, openMarks, openStrip, offerMarks, offerStrip, lineC}
@@ -99,11 +98,11 @@ in-filed (f ∷ fs) = in-append (checks f) (filed fs) (in-checks f) (in-filed fs
 
 pub in-reel : (s : List ℕ) → inTable (reels.opening s) ≡ true
 unfolding reels.opening tables inTable allowed
-in-reel s = in-append (filed (partsOf s)) [] (in-filed (partsOf s)) refl
+in-reel s = in-append (filed _) [] (in-filed _) refl
 
 pub in-writing : (s ls : List ℕ) (need room : ℕ) → inTable (writing s ls need room) ≡ true
 unfolding writing tables inTable allowed
-in-writing s ls need room = in-append (filed (listed s ls)) _ (in-filed (listed s ls)) refl
+in-writing s ls need room = in-append (filed _) _ (in-filed _) refl
 
 -- ---- files
 
@@ -210,7 +209,7 @@ of-check-reel κ a r t p = onward (reels.opening (now (a .1 .0))) (in-reel (now 
 
 pub of-open-reel : (κ : _) (a : _) (r : _) (t : _) → open-reel.Post κ a r t → (u : Turned) → paperOpened r ≡ refuses u → allowed u ≡ true
 unfolding opened
-of-open-reel κ a r t p u e = refuses-in (reels.opening (now (a .0))) (in-reel (now (a .0))) (countOf (now (a .0))) u (sym p ∙ e)
+of-open-reel κ a r t p u e = refuses-in (reels.opening (now (a .0))) (in-reel (now (a .0))) _ u (sym p ∙ e)
 
 pub of-write-reel : (κ : _) (a : _) (r : _) (t : _) → write-reel.Post κ a r t → (u : Turned) → paper r ≡ refused u
     → (allowed u ≡ true) × (now (t .1 .1 .0) ≡ now (a .1 .1 .0))

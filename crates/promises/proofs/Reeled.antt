@@ -172,15 +172,15 @@ good-fits s ls e =
 -- ---- writing
 
 module _ {s ls : List ℕ} (out bs : List ℕ) where
+  wrote-own : (fs gs : List File) (f : File) (u : Turned) → Handed s ls (fs ++ (f ∷ gs)) → Fits (fs ++ (f ∷ gs)) → Good fs → Own f u → wrote s ls bs out ≡ refused u
+  unfolding writing tables checked
+  wrote-own fs gs f u h t g e = rw (handed-good h t, handed-listed h) (judge-append fine (filed (fs ++ (f ∷ gs))) _ ∙ rw (first-bad fs gs f u g e) (judge-refused u (row (leb (length bs) (length out)) 17 0 ∷ [])))
+
   wrote-good : {fs : List File} → Handed s ls fs → Fits fs → Good fs → length bs ≤ length out → wrote s ls bs out ≡ fine
   unfolding writing
   wrote-good {fs} h f g r =
       exactly (writing s ls (length bs) (length out)) .1
       (each-of _ (holds (holds (handed-good h f) tt) (holds (good-all (listed s ls) (rw (handed-listed h) g)) (holds (holds (le-leb (length bs) (length out) r) tt) tt))))
-
-  wrote-own : (fs gs : List File) (f : File) (u : Turned) → Handed s ls (fs ++ (f ∷ gs)) → Fits (fs ++ (f ∷ gs)) → Good fs → Own f u → wrote s ls bs out ≡ refused u
-  unfolding writing tables checked
-  wrote-own fs gs f u h t g e = rw (handed-good h t, handed-listed h) (judge-append fine (filed (fs ++ (f ∷ gs))) _ ∙ rw (first-bad fs gs f u g e) (judge-refused u (row (leb (length bs) (length out)) 17 0 ∷ [])))
 
   wrote-room : {fs : List File} → Handed s ls fs → Fits fs → Good fs → length out < length bs → wrote s ls bs out ≡ refused (turned 17 0)
   unfolding writing tables checked

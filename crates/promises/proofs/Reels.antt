@@ -15,7 +15,7 @@ use Rattle.rules.specs.declared.Verdict.the-variants.{Fine}
 use Rattle.accept.specs.Checks.{checks}
 use Rattle.accept.proofs.verdict.Reads as verdict
 use Rattle.reel.specs.declared.Opened.the-variants.{Files}
-use Rattle.reel.specs.Ends.{ending, countOf}
+use Rattle.reel.specs.Ends.{ending}
 use Rattle.reel.specs.Reels.{File, entries, trailerOf, trailerLength, reelOf, partsOf, paperOpened, opened, fileOf}
 use Rattle.reel.specs.Reels as reels
 use Rattle.reel.specs.Writing.{listed, writing, wrote}
@@ -69,7 +69,7 @@ shown-says (refuses (turned n b)) h e = absurd (none-fine n b (h (turned n b) re
 
 in-opened : (s : List ℕ) (u : Turned) → opened s ≡ refuses u → allowed u ≡ true
 unfolding opened
-in-opened s u e = refuses-in (reels.opening s) (in-reel s) (countOf s) u e
+in-opened s u e = refuses-in (reels.opening s) (in-reel s) _ u e
 
 -- only reels open
 pub only : (κ : _) (a : _) (n : _) (t : _) → opening.Post κ a (Files n) t → Bytes (now (a .0)) → Reel (now (a .0)) (partsOf (now (a .0))) × (n ≡ length (partsOf (now (a .0))))
