@@ -3,7 +3,8 @@
  * What holds for every function here:
  *  - It answers whatever the numbers and bytes are: nothing needs to have been checked before.
  *  - It allocates nothing and keeps nothing; calls in several threads at once are fine.
- *  - A refusal changes no lent element, and shows its number and its block: everything else in the answer is 0.
+ *  - A refusal changes no lent element, and shows its number, its block and the offset of the field that it concerns, counted
+ *    in bytes from the file's start: everything else in the answer is 0.
  *
  * What it needs from you, since no function can check it:
  *  - A pointer and a length lend it so many elements of readable (or writable) memory. The pointer must not be NULL, even
@@ -28,25 +29,33 @@ extern "C" {
 
 /* Why something is turned away. The first check that fails answers. */
 enum {
-    HSD_FINE = 0,        /* it is not */
-    HSD_SHORT = 1,       /* too few bytes for the block */
-    HSD_NUMBER = 2,      /* the block does not begin with its number */
-    HSD_ORDER = 3,       /* byte order above 1 */
-    HSD_LENGTH = 4,      /* the block's length is not the format's */
-    HSD_FIXED = 5,       /* block count, bits, or one of the two special counts is not the format's */
-    HSD_PACKED = 6,      /* the counts are packed */
-    HSD_FIELD = 7,       /* a value out of its range; with block 0: a day or timeline of hsd_frame_number */
-    HSD_HEADER_SUM = 8,  /* total header length is not the sum of the blocks */
-    HSD_DATA_SUM = 9,    /* total data length is not 2 x columns x lines */
-    HSD_NAME = 10,       /* the name in block 1 is not spelt by the rule, or does not agree with the header */
-    HSD_CUT = 11,        /* counts are missing at the end */
-    HSD_TAIL = 12,       /* bytes after the last count */
-    HSD_SLATE = 13,      /* bad slate, or bad marks */
-    HSD_STRIP = 14,      /* the frame is not exactly of the slate's size */
-    HSD_OTHER_SHOT = 15, /* a good file, but not one of the slate's */
-    HSD_ALREADY = 16,    /* a segment with its number is in */
-    HSD_ROOM = 17,       /* the output is too short for the reel, or for its trailer */
-    HSD_REEL = 18        /* bytes that are no reel, or a list of files that has none */
+    HSD_FINE = 0,               /* it is not */
+    HSD_SHORT = 1,              /* too few bytes for the block */
+    HSD_NUMBER = 2,             /* the block does not begin with its number */
+    HSD_ORDER = 3,              /* byte order above 1 */
+    HSD_LENGTH = 4,             /* the block's length is not the format's */
+    HSD_FIXED = 5,              /* block count, bits, or one of the two special counts is not the format's */
+    HSD_PACKED = 6,             /* the counts are packed */
+    HSD_HEADER_SUM = 8,         /* total header length is not the sum of the blocks */
+    HSD_DATA_SUM = 9,           /* total data length is not 2 x columns x lines */
+    HSD_NAME = 10,              /* the name in block 1 is not spelt by the rule, or does not agree with the header */
+    HSD_CUT = 11,               /* counts are missing at the end */
+    HSD_TAIL = 12,              /* bytes after the last count */
+    HSD_SLATE = 13,             /* bad slate, or bad marks */
+    HSD_STRIP = 14,             /* the frame is not exactly of the slate's size */
+    HSD_OTHER_SHOT = 15,        /* a good file, but not one of the slate's */
+    HSD_ALREADY = 16,           /* a segment with its number is in */
+    HSD_ROOM = 17,              /* the output is too short for the reel, or for its trailer */
+    HSD_REEL = 18,              /* bytes that are no reel, or a list of files that has none */
+    HSD_SATELLITE_FIELD = 31,   /* these are values out of their ranges: block 1's satellite */
+    HSD_AREA_FIELD = 32,        /* its area */
+    HSD_TIMELINE_FIELD = 33,    /* its timeline; with block 0 a timeline of hsd_frame_number */
+    HSD_SIZE_FIELD = 34,        /* block 2's columns or lines */
+    HSD_COMPRESSION_FIELD = 35, /* its compression flag, above 2 */
+    HSD_BAND_FIELD = 36,        /* block 5's band */
+    HSD_BITS_FIELD = 37,        /* its valid bits, which are not the band's */
+    HSD_SEGMENT_FIELD = 38,     /* block 7's segment total, segment number or first line */
+    HSD_DAY_FIELD = 39          /* with block 0: a day of hsd_frame_number */
 };
 
 /* What a count reads as. */
@@ -74,10 +83,12 @@ enum { HSD_MARKS = 99 };
 
 /* What a file says. */
 typedef struct HsdFile {
-    uint8_t refusal;        /* HSD_FINE, or HSD_SHORT to HSD_TAIL */
+    uint8_t refusal;        /* HSD_FINE, HSD_SHORT to HSD_TAIL, or HSD_SATELLITE_FIELD to HSD_SEGMENT_FIELD */
     uint8_t block;          /* of a refusal: 1 to 11, or 12 for the counts */
     uint8_t satellite;      /* 8 or 9 */
     uint8_t quality;        /* quality flag 1, as it stands in the file; hsd_quality says what it means */
+    uint32_t offset;        /* of a refusal: where the first field at fault stands, in bytes from the file's start; where the
+                               block starts for HSD_SHORT, and the counts for HSD_CUT and HSD_TAIL */
     uint32_t day;           /* Modified Julian Day of the name's date: 51,544 is 2000-01-01 */
     uint16_t timeline;      /* hhmm as a number: 200 is 02:00 */
     uint16_t band;          /* 1 to 16 */
@@ -131,8 +142,9 @@ HsdQuality hsd_quality(uint8_t quality);
 
 /* A shot's number on the film. */
 typedef struct HsdFrameNumber {
-    uint8_t refusal; /* HSD_FINE, or HSD_FIELD: a day out of 51,544 to 88,068, or a timeline that is no good hhmm */
+    uint8_t refusal; /* HSD_FINE; HSD_DAY_FIELD, either day out of 51,544 to 88,068; then HSD_TIMELINE_FIELD, either no good hhmm */
     uint8_t block;   /* 0 */
+    uint32_t offset; /* 0: these numbers come from no file */
     int64_t number;  /* 10 minutes each, negative for a shot before the first */
 } HsdFrameNumber;
 
@@ -159,6 +171,7 @@ typedef struct HsdSlate {
 typedef struct HsdAnswer {
     uint8_t refusal; /* HSD_FINE, or why not */
     uint8_t block;   /* of a file's refusal; else 0 */
+    uint32_t offset; /* of a file's refusal, as in HsdFile; else 0 */
 } HsdAnswer;
 
 /* A record of what is in is HSD_MARKS bytes, each 0 or 1: marks[k - 1] is 1 when segment k is in. Another length or another
@@ -170,9 +183,9 @@ typedef struct HsdAnswer {
  * hold will do, and only another length is HSD_SLATE. */
 HsdAnswer hsd_open(HsdSlate slate, uint8_t *marks, size_t marks_length, uint16_t *frame, size_t frame_length);
 
-/* Offers a file: HSD_SLATE, HSD_STRIP, HSD_SHORT to HSD_TAIL, HSD_OTHER_SHOT, HSD_ALREADY, or fine. When fine, the
- * segment's lines of the frame are the file's counts as numbers, its mark is 1, and nothing else has changed. Files may
- * come in any order. */
+/* Offers a file: HSD_SLATE, HSD_STRIP, what hsd_accept says of a refused file, HSD_OTHER_SHOT, HSD_ALREADY, or fine. When
+ * fine, the segment's lines of the frame are the file's counts as numbers, its mark is 1, and nothing else has changed. Files
+ * may come in any order. */
 HsdAnswer hsd_offer(HsdSlate slate, uint8_t *marks, size_t marks_length, uint16_t *frame, size_t frame_length,
                     const uint8_t *file, size_t file_length);
 
@@ -192,6 +205,7 @@ typedef struct HsdReel {
     uint8_t refusal; /* HSD_FINE; HSD_REEL, told before any file is looked at; or the first refused file's own */
     uint8_t block;   /* of a file's refusal; else 0 */
     uint16_t files;  /* how many, 1 to 255 */
+    uint32_t offset; /* of a file's refusal, from that file's start, not the reel's; else 0 */
 } HsdReel;
 
 /* Opens a reel: judges the trailer, and then each file. It reads the headers and no count. */
