@@ -1,4 +1,4 @@
-// Acceptance: a byte string in, and out the file's facts or the first refusal with its number and block.
+// Acceptance: a byte string in, and out the file's facts or the first refusal with its number, block and offset.
 use header::Block1;
 use header::Block2;
 use header::Block5;
@@ -49,12 +49,15 @@ pub enum Answer {
 
 // Each of these makes the checks of one table, in the table's order: the refusal's name stands for its number.
 fn check_shape(v: Verdict, s: &[u8], order: u8, block: u8, at: usize, n: u16) -> Verdict
+    requires { ⌜ at < 2000000 ⌝ }
     ensures { λ r. ⌜ paper r ≡ judge (paper v) (shape (now (s .entry)) order block at n) ⌝ }
 {
     let t = wire::rest(s, at);
-    let v = rules::check(v, (n as usize) <= t.len(), Why::Short, block);
-    let v = rules::check(v, wire::byte_at(t, 0) == block, Why::Number, block);
-    rules::check(v, wire::u16_at(t, 1, order) == n, Why::Length, block)
+    let offset = at as u32;
+    let v = rules::check(v, (n as usize) <= t.len(), Why::Short, block, offset);
+    let v = rules::check(v, wire::byte_at(t, 0) == block, Why::Number, block, offset);
+    let good = wire::u16_at(t, 1, order) == n;
+    rules::check(v, good, Why::Length, block, offset + 1)
 }
 
 // stated: the length that the block states; least and full: its length without and with its entries.
@@ -67,23 +70,25 @@ fn check_entries(
     least: usize,
     full: usize,
 ) -> Verdict
+    requires { ⌜ at < 2000000 ⌝ }
     ensures { λ r. ⌜ paper r ≡ judge (paper v) (entries (now (s .entry)) block at stated least full) ⌝ }
 {
     let left = wire::left(s, at);
-    let v = rules::check(v, least <= left, Why::Short, block);
-    let v = rules::check(v, wire::byte_at(s, at) == block, Why::Number, block);
-    let v = rules::check(v, stated == full, Why::Length, block);
-    rules::check(v, full <= left, Why::Short, block)
+    let offset = at as u32;
+    let v = rules::check(v, least <= left, Why::Short, block, offset);
+    let v = rules::check(v, wire::byte_at(s, at) == block, Why::Number, block, offset);
+    let v = rules::check(v, stated == full, Why::Length, block, offset + 1);
+    rules::check(v, full <= left, Why::Short, block, offset)
 }
 
 fn check_shape1(v: Verdict, s: &[u8], order: u8) -> Verdict
     ensures { λ r. ⌜ paper r ≡ judge (paper v) (shape1 (now (s .entry)) order) ⌝ }
 {
-    let v = rules::check(v, 282 <= wire::left(s, 0), Why::Short, 1);
-    let v = rules::check(v, wire::byte_at(s, 0) == 1, Why::Number, 1);
-    let v = rules::check(v, order <= 1, Why::Order, 1);
-    let v = rules::check(v, wire::u16_at(s, 1, order) == 282, Why::Length, 1);
-    rules::check(v, wire::u16_at(s, 3, order) == 11, Why::Fixed, 1)
+    let v = rules::check(v, 282 <= wire::left(s, 0), Why::Short, 1, 0);
+    let v = rules::check(v, wire::byte_at(s, 0) == 1, Why::Number, 1, 0);
+    let v = rules::check(v, order <= 1, Why::Order, 1, 5);
+    let v = rules::check(v, wire::u16_at(s, 1, order) == 282, Why::Length, 1, 1);
+    rules::check(v, wire::u16_at(s, 3, order) == 11, Why::Fixed, 1, 3)
 }
 
 // The tables of values are the writer's too.
@@ -92,64 +97,73 @@ pub fn check_fields1(v: Verdict, w: Block1) -> Verdict
 {
     let satellite = w.satellite;
     let area = w.area;
-    let v = rules::check(v, format::satellite_of(satellite) != 0, Why::Field, 1);
-    let v = rules::check(v, format::good_area(area), Why::Field, 1);
-    rules::check(v, calendar::good_timeline(w.timeline), Why::Field, 1)
+    let v = rules::check(
+        v,
+        format::satellite_of(satellite) != 0,
+        Why::Satellite,
+        1,
+        6,
+    );
+    let v = rules::check(v, format::good_area(area), Why::Area, 1, 38);
+    rules::check(v, calendar::good_timeline(w.timeline), Why::Timeline, 1, 44)
 }
 
 fn check_fixed2(v: Verdict, s: &[u8], order: u8) -> Verdict
     ensures { λ r. ⌜ paper r ≡ judge (paper v) (fixed2 (now (s .entry)) order) ⌝ }
 {
-    rules::check(v, wire::u16_at(s, 285, order) == 16, Why::Fixed, 2)
+    rules::check(v, wire::u16_at(s, 285, order) == 16, Why::Fixed, 2, 285)
 }
 
 pub fn check_fields2(v: Verdict, w: Block2) -> Verdict
     ensures { λ r. ⌜ paper r ≡ judge (paper v) (fields2 w) ⌝ }
 {
     let flag = w.compression;
-    let v = rules::check(v, !((flag == 1) | (flag == 2)), Why::Packed, 2);
-    let v = rules::check(v, format::good_size(w.columns), Why::Field, 2);
-    let v = rules::check(v, format::good_size(w.lines), Why::Field, 2);
-    rules::check(v, flag <= 2, Why::Field, 2)
+    let v = rules::check(v, !((flag == 1) | (flag == 2)), Why::Packed, 2, 291);
+    let v = rules::check(v, format::good_size(w.columns), Why::Size, 2, 287);
+    let v = rules::check(v, format::good_size(w.lines), Why::Size, 2, 289);
+    rules::check(v, flag <= 2, Why::Compression, 2, 291)
 }
 
 fn check_fixed5(v: Verdict, s: &[u8], order: u8) -> Verdict
     ensures { λ r. ⌜ paper r ≡ judge (paper v) (fixed5 (now (s .entry)) order) ⌝ }
 {
-    let v = rules::check(v, wire::u16_at(s, 613, order) == 65535, Why::Fixed, 5);
-    rules::check(v, wire::u16_at(s, 615, order) == 65534, Why::Fixed, 5)
+    let v = rules::check(v, wire::u16_at(s, 613, order) == 65535, Why::Fixed, 5, 613);
+    rules::check(v, wire::u16_at(s, 615, order) == 65534, Why::Fixed, 5, 615)
 }
 
 pub fn check_fields5(v: Verdict, w: Block5) -> Verdict
     ensures { λ r. ⌜ paper r ≡ judge (paper v) (fields5 w) ⌝ }
 {
-    let v = rules::check(v, format::good_band(w.band), Why::Field, 5);
-    rules::check(v, w.bits == format::band_of(w.band).bits, Why::Field, 5)
+    let v = rules::check(v, format::good_band(w.band), Why::Band, 5, 601);
+    rules::check(v, w.bits == format::band_of(w.band).bits, Why::Bits, 5, 611)
 }
 
 pub fn check_fields7(v: Verdict, w: Block7, lines: u16) -> Verdict
     ensures { λ r. ⌜ paper r ≡ judge (paper v) (fields7 w lines) ⌝ }
 {
-    let v = rules::check(v, format::good_total(w.total), Why::Field, 7);
-    let v = rules::check(v, format::good_number(w.number, w.total), Why::Field, 7);
-    rules::check(v, format::good_first(w.first, lines), Why::Field, 7)
+    let v = rules::check(v, format::good_total(w.total), Why::Segment, 7, 1007);
+    let v = rules::check(
+        v,
+        format::good_number(w.number, w.total),
+        Why::Segment,
+        7,
+        1008,
+    );
+    rules::check(v, format::good_first(w.first, lines), Why::Segment, 7, 1009)
 }
 
-fn check_sums(v: Verdict, s: &[u8], order: u8, front: usize, counts: usize) -> Verdict
+fn check_sums(v: Verdict, s: &[u8], order: u8, front: u32, counts: usize) -> Verdict
     ensures { λ r. ⌜ paper r ≡ judge (paper v) (sums (now (s .entry)) order front counts) ⌝ }
 {
     let v = rules::check(
         v,
-        wire::u32_at(s, 70, order) as usize == front,
+        wire::u32_at(s, 70, order) == front,
         Why::HeaderSum,
         1,
+        70,
     );
-    rules::check(
-        v,
-        wire::u32_at(s, 74, order) as usize == counts,
-        Why::DataSum,
-        1,
-    )
+    let good = wire::u32_at(s, 74, order) as usize == counts;
+    rules::check(v, good, Why::DataSum, 1, 74)
 }
 
 pub fn check_name(v: Verdict, w: Block1, x: Block5, y: Block7) -> Verdict
@@ -160,15 +174,15 @@ pub fn check_name(v: Verdict, w: Block1, x: Block5, y: Block7) -> Verdict
     let name = w.name;
     let number = format::satellite_of(satellite);
     let good = format::good_name(name, number, w.timeline, x.band, area, y.number, y.total);
-    rules::check(v, good, Why::Name, 1)
+    rules::check(v, good, Why::Name, 1, 114)
 }
 
-fn check_ends(v: Verdict, s: &[u8], front: usize, counts: usize) -> Verdict
+fn check_ends(v: Verdict, s: &[u8], front: u32, counts: usize) -> Verdict
     ensures { λ r. ⌜ paper r ≡ judge (paper v) (ends (now (s .entry)) front counts) ⌝ }
 {
-    let left = wire::left(s, front);
-    let v = rules::check(v, counts <= left, Why::Cut, 12);
-    rules::check(v, left <= counts, Why::Tail, 12)
+    let left = wire::left(s, front as usize);
+    let v = rules::check(v, counts <= left, Why::Cut, 12, front);
+    rules::check(v, left <= counts, Why::Tail, 12, front)
 }
 
 // The checks of the blocks, in their order.
@@ -214,7 +228,7 @@ fn check_blocks8to11(v: Verdict, s: &[u8], order: u8, a: u16, b: u16, c: u16) ->
     check_shape(v, s, order, 11, at11, 259)
 }
 
-fn check_whole(v: Verdict, s: &[u8], order: u8, front: usize, counts: usize) -> Verdict
+fn check_whole(v: Verdict, s: &[u8], order: u8, front: u32, counts: usize) -> Verdict
     ensures { λ r. ⌜ paper r ≡ judge (paper v) (whole (now (s .entry)) order front counts) ⌝ }
 {
     let w = header::read_block1(s, order);
@@ -234,7 +248,7 @@ pub fn check_file(v: Verdict, s: &[u8]) -> Verdict
     let b = header::b_of(s);
     let c = header::c_of(s);
     let sizes = header::read_block2(s, order);
-    let front = header::header_length(a, b, c) as usize;
+    let front = header::header_length(a, b, c);
     let counts = header::data_length(sizes.columns, sizes.lines);
     let v = check_blocks1to4(v, s, order);
     let v = check_blocks5to7(v, s, order);

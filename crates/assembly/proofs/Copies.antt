@@ -65,7 +65,7 @@ none-yet (suc n) = rw (none-yet n)
 
 -- what a file adds, by itself: 1 if it matches, for it is told ALREADY or marks a number of its own
 abbrev weigh : Ruling → Bool → ℕ
-weigh v m = cond (isFine v && m) 1 (cond (isAlready (checked v m (turned 15 0))) 1 0)
+weigh v m = cond (isFine v && m) 1 (cond (isAlready (checked v m (turned 15 0 0))) 1 0)
 
 abbrev weight : Slate → List File → ℕ
 weight s [] = 0

@@ -163,7 +163,7 @@ module _ (s : Slate) (ok : goodSlate s ≡ true) (frame : List ℕ) (fits : leng
       (ap (λ (x : Ruling). x ∷ map (alone s) fs) (go (judge fine (checks f)) (matching s (factsOf f)) refl refl ∙ tried (table refl (table refl last))))
     where
       go : (v : Ruling) (m : Bool) → judge fine (checks f) ≡ v → matching s (factsOf f) ≡ m
-          → settle v m (not (came s (factsOf f .number) fs)) ≡ checked v m (turned 15 0)
+          → settle v m (not (came s (factsOf f .number) fs)) ≡ checked v m (turned 15 0 0)
       go fine true eg em =
           let n = factsOf f .number in
           let b = bears-is s n f eg em ∙ eq-eqb n n refl in

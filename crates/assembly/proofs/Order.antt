@@ -163,7 +163,7 @@ marks-marked s ok fs (suc k) = rw (le-leb 1 (suc k) (omega arith)) (go (leb (suc
 
 -- the file's own verdict, and then 15 and 16
 abbrev pub settle : Ruling → Bool → Bool → Ruling
-settle v match new = checked (checked v match (turned 15 0)) new (turned 16 0)
+settle v match new = checked (checked v match (turned 15 0 0)) new (turned 16 0 0)
 
 -- what a file is answered after a history
 abbrev pub settled : Slate → List File → File → Ruling

@@ -47,7 +47,7 @@ isFine (refused t) = false
 
 abbrev pub isAlready : Ruling → Bool
 isAlready fine = false
-isAlready (refused (turned number block)) = eqb number 16
+isAlready (refused (turned number block offset)) = eqb number 16
 
 -- how many of the answers are ALREADY
 abbrev pub alreadies : List Ruling → ℕ
@@ -86,7 +86,7 @@ Agree s fs = (k : ℕ) (f g : File) → List·Memᴰ f fs → List·Memᴰ g fs 
 
 -- what a file is answered where no other bears its number
 abbrev pub alone : Slate → File → Ruling
-alone s f = judge fine (tables (checks f ∷ (row (matching s (factsOf f)) 15 0 ∷ []) ∷ []))
+alone s f = judge fine (tables (checks f ∷ (row (matching s (factsOf f)) 15 0 0 ∷ []) ∷ []))
 
 -- 65,534 throughout segment k
 abbrev pub empty : Slate → ℕ → List ℕ

@@ -31,7 +31,7 @@ real y m d = leb 2000 y && (leb y 2099 && (leb 1 m && (leb m 12 && (leb 1 d && l
 -- what the paper says of a date's answer: a date that is not real breaks the name's rule, NAME of block 1
 unfoldable pub paperDay : Dated → Reply ℕ
 paperDay (Day n) = says n
-paperDay NoSuchDate = refuses (turned 10 1)
+paperDay NoSuchDate = refuses (turned 10 1 0)
 
 -- the day of a date, counted from its month's first
 abbrev pub dayAt : ℕ → ℕ → ℕ → ℕ
@@ -39,4 +39,4 @@ dayAt y m d = monthStart (12 * (y - 2000) + (m - 1)) + (d - 1)
 
 unfoldable pub dayOf : ℕ → ℕ → ℕ → Reply ℕ
 unfolding real monthStart
-dayOf y m d = cond (real y m d) (says (dayAt y m d)) (refuses (turned 10 1))
+dayOf y m d = cond (real y m d) (says (dayAt y m d)) (refuses (turned 10 1 0))

@@ -25,9 +25,9 @@ goodTimeline t = leb (t / 100) 23 && minute (t % 100)
 unfoldable pub slotAt : ℕ → ℕ → ℕ
 slotAt d t = d * 144 + t / 100 * 6 + t % 100 / 10
 
--- the checks of a shot: FIELD, block 0
+-- the checks of a shot: 39 day, 33 timeline, block 0
 unfoldable pub shot : ℕ → ℕ → List Row
-shot d t = row (goodDay d) 7 0 ∷ row (goodTimeline t) 7 0 ∷ []
+shot d t = row (goodDay d) 39 0 0 ∷ row (goodTimeline t) 33 0 0 ∷ []
 
 unfoldable pub paperSlot : Slotted → Reply ℕ
 paperSlot (slotted.Slot n) = says n
@@ -39,10 +39,10 @@ slotOf d t = reply (judge fine (shot d t)) (slotAt d t)
 -- the checks of two shots: either day, then either timeline
 unfoldable pub shots : ℕ → ℕ → ℕ → ℕ → List Row
 shots d₀ t₀ d t =
-    row (goodDay d₀) 7 0
-    ∷ row (goodDay d) 7 0
-    ∷ row (goodTimeline t₀) 7 0
-    ∷ row (goodTimeline t) 7 0
+    row (goodDay d₀) 39 0 0
+    ∷ row (goodDay d) 39 0 0
+    ∷ row (goodTimeline t₀) 33 0 0
+    ∷ row (goodTimeline t) 33 0 0
     ∷ []
 
 unfoldable pub paperFrame : FilmFrame → Reply ℤ

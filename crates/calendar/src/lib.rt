@@ -111,8 +111,8 @@ fn slot_at(day: u32, timeline: u16) -> u64
 fn check_shot(day: u32, timeline: u16) -> Verdict
     ensures { λ r. ⌜ paper r ≡ judge fine (shot day timeline) ⌝ }
 {
-    let v = rules::check(Verdict::Fine, good_day(day), Why::Field, 0);
-    rules::check(v, good_timeline(timeline), Why::Field, 0)
+    let v = rules::check(Verdict::Fine, good_day(day), Why::Day, 0, 0);
+    rules::check(v, good_timeline(timeline), Why::Timeline, 0, 0)
 }
 
 // A shot's slot.
@@ -129,10 +129,10 @@ pub fn slot(day: u32, timeline: u16) -> Slotted
 fn check_shots(first_day: u32, first_timeline: u16, day: u32, timeline: u16) -> Verdict
     ensures { λ r. ⌜ paper r ≡ judge fine (shots «first_day» «first_timeline» day timeline) ⌝ }
 {
-    let v = rules::check(Verdict::Fine, good_day(first_day), Why::Field, 0);
-    let v = rules::check(v, good_day(day), Why::Field, 0);
-    let v = rules::check(v, good_timeline(first_timeline), Why::Field, 0);
-    rules::check(v, good_timeline(timeline), Why::Field, 0)
+    let v = rules::check(Verdict::Fine, good_day(first_day), Why::Day, 0, 0);
+    let v = rules::check(v, good_day(day), Why::Day, 0, 0);
+    let v = rules::check(v, good_timeline(first_timeline), Why::Timeline, 0, 0);
+    rules::check(v, good_timeline(timeline), Why::Timeline, 0, 0)
 }
 
 // a minus b, negative where b is larger.

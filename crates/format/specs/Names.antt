@@ -21,7 +21,7 @@ digits8 n =
 
 -- the day of a name: yyyymmdd as a date
 unfoldable pub dateOf : List ℕ → Reply ℕ
-dateOf n = cond (digits8 n) (dayOf (pairAt n 7 * 100 + pairAt n 9) (pairAt n 11) (pairAt n 13)) (refuses (turned 10 1))
+dateOf n = cond (digits8 n) (dayOf (pairAt n 7 * 100 + pairAt n 9) (pairAt n 11) (pairAt n 13)) (refuses (turned 10 1 0))
 
 -- whether there is a day, and which one
 abbrev pub isDay : Reply ℕ → Bool

@@ -15,7 +15,7 @@ use Rattle.frame.specs.Records.{marked, mark, noneAbove}
 -- ---- opening: 13 SLATE, 14 STRIP
 
 unfoldable pub opening : Slate → ℕ → List Row
-opening s size = slated s ++ (row (eqb size (frameSize s)) 14 0 ∷ [])
+opening s size = slated s ++ (row (eqb size (frameSize s)) 14 0 0 ∷ [])
 
 abbrev pub opened : Slate → ℕ → Ruling
 opened s size = judge fine (opening s size)
@@ -32,14 +32,14 @@ openFrame s frame = after (opened s (length frame)) frame (replicate (length fra
 unfoldable pub ready : Slate → List Bool → ℕ → List Row
 ready s marks size =
     slated s
-    ++ (row (noneAbove (s .total) marks) 13 0
-    ∷ row (eqb size (frameSize s)) 14 0
+    ++ (row (noneAbove (s .total) marks) 13 0 0
+    ∷ row (eqb size (frameSize s)) 14 0 0
     ∷ [])
 
 unfoldable pub placing : Slate → List Bool → List ℕ → List Row
 placing s marks f =
-    row (matching s (factsOf f)) 15 0
-    ∷ row (not (marked marks (factsOf f .number))) 16 0
+    row (matching s (factsOf f)) 15 0 0
+    ∷ row (not (marked marks (factsOf f .number))) 16 0 0
     ∷ []
 
 unfoldable pub offering : Slate → List Bool → ℕ → List ℕ → List Row

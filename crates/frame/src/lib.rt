@@ -167,7 +167,7 @@ fn check_open(slate: Slate, size: usize) -> Verdict
     ensures { λ r. ⌜ paper r ≡ opened slate size ⌝ }
 {
     let v = slate.check(Verdict::Fine);
-    rules::check(v, size == slate.frame_size(), Why::Strip, 0)
+    rules::check(v, size == slate.frame_size(), Why::Strip, 0, 0)
 }
 
 // Checks slate and frame, fills the frame with 65,534, and gives a record with no segment in.
@@ -199,16 +199,16 @@ fn check_ready(slate: Slate, rec: Record, size: usize) -> Verdict
     ensures { λ r. ⌜ paper r ≡ judge fine (ready slate (rec .marks) size) ⌝ }
 {
     let v = slate.check(Verdict::Fine);
-    let v = rules::check(v, none_above(rec, slate.total()), Why::Slate, 0);
-    rules::check(v, size == slate.frame_size(), Why::Strip, 0)
+    let v = rules::check(v, none_above(rec, slate.total()), Why::Slate, 0, 0);
+    rules::check(v, size == slate.frame_size(), Why::Strip, 0, 0)
 }
 
 fn check_placing(v: Verdict, slate: Slate, rec: Record, file: &[u8]) -> Verdict
     ensures { λ r. ⌜ paper r ≡ judge (paper v) (placing slate (rec .marks) (now (file .entry))) ⌝ }
 {
     let f = accept::facts_of(file);
-    let v = rules::check(v, slate.matches(f), Why::OtherShot, 0);
-    rules::check(v, !is_marked(rec, f.number), Why::Already, 0)
+    let v = rules::check(v, slate.matches(f), Why::OtherShot, 0, 0);
+    rules::check(v, !is_marked(rec, f.number), Why::Already, 0, 0)
 }
 
 fn judge(slate: Slate, rec: Record, size: usize, file: &[u8]) -> Verdict

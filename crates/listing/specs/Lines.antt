@@ -38,9 +38,9 @@ shotWords satellite day timeline band area = join (plain satellite ∷ plain day
 unfoldable pub segmentWords : ℕ → ℕ → ℕ → ℕ → ℕ → List ℕ
 segmentWords columns lines number total first = join (plain columns ∷ plain lines ∷ plain number ∷ plain total ∷ plain first ∷ [])
 
--- what a refusal says: NO, its number and its block
+-- what a refusal says: NO, its number, its block and the offset of the field at fault
 unfoldable pub refusalWords : Turned → List ℕ
-refusalWords (turned n b) = join ((78 ∷ 79 ∷ []) ∷ plain n ∷ plain b ∷ [])
+refusalWords (turned n b p) = join ((78 ∷ 79 ∷ []) ∷ plain n ∷ plain b ∷ plain p ∷ [])
 
 -- OK, the shot and the segment; or what the refusal says
 unfoldable pub lineWords : Reply Facts → List ℕ

@@ -111,12 +111,13 @@ fn put_segment(
 
 // What a refusal says, stored at the front of a lent slice; answers how many bytes that is.
 pub fn refusal(out: &mut [u8], t: Refusal) -> usize
-    ensures { λ r. ⌜ Stored r (now (out .entry)) 0 (refusalWords (paperOf t)) (now (out .exit)) × (r ≤ 24) ⌝ }
+    ensures { λ r. ⌜ Stored r (now (out .entry)) 0 (refusalWords (paperOf t)) (now (out .exit)) × (r ≤ 35) ⌝ }
 {
     let why = t.why;
     wire::put(out, 0, b"NO");
     let at = 2 + put_plain(out, 2, rules::number_of(why) as u32);
-    at + put_plain(out, at, t.block as u32)
+    let at = at + put_plain(out, at, t.block as u32);
+    at + put_plain(out, at, t.offset)
 }
 
 // The line of each answer; no facts and no refusal make it longer than 64 bytes.

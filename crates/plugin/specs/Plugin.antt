@@ -18,21 +18,22 @@ use Rattle.plugin.specs.declared.HsdReading.{HsdReading}
 use Rattle.plugin.specs.declared.HsdQuality.{HsdQuality}
 use Rattle.plugin.specs.declared.HsdFrameNumber.{HsdFrameNumber}
 
--- 0 and 0 where nothing is wrong, and else the refusal's number and block
+-- zeros where nothing is wrong, and else the refusal's number, block and offset
 unfoldable pub shownRuling : Ruling → HsdAnswer
-shownRuling fine = record { refusal = 0; block = 0 }
-shownRuling (refused (turned n b)) = record { refusal = n; block = b }
+shownRuling fine = record { refusal = 0; block = 0; offset = 0 }
+shownRuling (refused (turned n b p)) = record { refusal = n; block = b; offset = p }
 
 abbrev zero : Float
 zero = fin false 0 (pos 0)
 
--- a refusal's number and block, and else zeros
-abbrev pub refusedFile : ℕ → ℕ → HsdFile
-refusedFile n b = record {
+-- a refusal's number, block and offset, and else zeros
+abbrev pub refusedFile : ℕ → ℕ → ℕ → HsdFile
+refusedFile n b p = record {
   refusal = n;
   block = b;
   satellite = 0;
   quality = 0;
+  offset = p;
   day = 0;
   timeline = 0;
   band = 0;
@@ -56,6 +57,7 @@ shownFile (says f) = record {
   block = 0;
   satellite = f .satellite;
   quality = f .quality;
+  offset = 0;
   day = f .day;
   timeline = f .timeline;
   band = f .band;
@@ -71,7 +73,7 @@ shownFile (says f) = record {
   gain = calibrationIn f .gain;
   constant = calibrationIn f .constant;
 }
-shownFile (refuses (turned n b)) = refusedFile n b
+shownFile (refuses (turned n b p)) = refusedFile n b p
 
 abbrev pub calibrated : Float → Float → ℕ → Calibration
 calibrated g k b = record { gain = g; constant = k; bits = b }
@@ -110,5 +112,5 @@ shownMarks m = record {
 }
 
 unfoldable pub shownFrame : Reply ℤ → HsdFrameNumber
-shownFrame (says n) = record { refusal = 0; block = 0; number = n }
-shownFrame (refuses (turned k b)) = record { refusal = k; block = b; number = pos 0 }
+shownFrame (says n) = record { refusal = 0; block = 0; offset = 0; number = n }
+shownFrame (refuses (turned k b p)) = record { refusal = k; block = b; offset = p; number = pos 0 }

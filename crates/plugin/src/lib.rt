@@ -21,6 +21,8 @@ ghost use Rattle.plugin.specs.Plugin.{shownRuling, refusedFile, shownFil
 pub struct HsdAnswer {
     pub refusal: u8,
     pub block: u8,
+    // of a file's refusal: where the field at fault stands, from the file's first byte
+    pub offset: u32,
 }
 
 // A verdict in numbers.
@@ -31,18 +33,20 @@ pub fn answer_of(v: Verdict) -> HsdAnswer
         Verdict::Fine => HsdAnswer {
             refusal: 0,
             block: 0,
+            offset: 0,
         },
         Verdict::Refused(t) => {
             let why = t.why;
             HsdAnswer {
                 refusal: rules::number_of(why),
                 block: t.block,
+                offset: t.offset,
             }
         }
     }
 }
 
-// refusal is 0 for an accepted file, and everything after block is 0 for a refused one.
+// refusal, block and offset are 0 for an accepted file, and everything else is 0 for a refused one.
 #[repr(C)]
 pub struct HsdFile {
     pub refusal: u8,
@@ -51,6 +55,8 @@ pub struct HsdFile {
     pub satellite: u8,
     // quality flag 1
     pub quality: u8,
+    // of a refusal
+    pub offset: u32,
     pub day: u32,
     pub timeline: u16,
     pub band: u16,
@@ -82,6 +88,7 @@ pub extern "C" fn hsd_accept(file: &[u8]) -> HsdFile
                 block: 0,
                 satellite: f.satellite,
                 quality: f.quality,
+                offset: 0,
                 day: f.day,
                 timeline: f.timeline,
                 band: f.band,
@@ -100,19 +107,20 @@ pub extern "C" fn hsd_accept(file: &[u8]) -> HsdFile
         }
         Answer::Refused(t) => {
             let why = t.why;
-            refused(rules::number_of(why), t.block)
+            refused(rules::number_of(why), t.block, t.offset)
         }
     }
 }
 
-fn refused(refusal: u8, block: u8) -> HsdFile
-    ensures { λ r. ⌜ r ≡ refusedFile refusal block ⌝ }
+fn refused(refusal: u8, block: u8, offset: u32) -> HsdFile
+    ensures { λ r. ⌜ r ≡ refusedFile refusal block offset ⌝ }
 {
     HsdFile {
         refusal,
         block,
         satellite: 0,
         quality: 0,
+        offset,
         day: 0,
         timeline: 0,
         band: 0,
@@ -229,6 +237,7 @@ fn shown_mark(mark: Mark) -> u8
 pub struct HsdFrameNumber {
     pub refusal: u8,
     pub block: u8,
+    pub offset: u32,
     pub number: i64,
 }
 
@@ -246,6 +255,7 @@ pub extern "C" fn hsd_frame_number(
         FilmFrame::Number(number) => HsdFrameNumber {
             refusal: 0,
             block: 0,
+            offset: 0,
             number,
         },
         FilmFrame::Refused(t) => {
@@ -253,6 +263,7 @@ pub extern "C" fn hsd_frame_number(
             HsdFrameNumber {
                 refusal: rules::number_of(why),
                 block: t.block,
+                offset: t.offset,
                 number: 0,
             }
         }

@@ -91,17 +91,17 @@ module _ (s : HsdSlate) (ok : Bool) where
   abbrev given : Ruling → Ruling
   given v = judge v (slated (slateIn s))
 
-  pub slate-fine : checked fine ok (turned 13 0) ≡ fine → slateOf (slateIn s) ≡ slateC s ok
+  pub slate-fine : checked fine ok (turned 13 0 0) ≡ fine → slateOf (slateIn s) ≡ slateC s ok
   unfolding lent slateOf
   slate-fine e = sym (ap (λ (r : Ruling). reply r (slateIn s)) (two (lent ok) (slated (slateIn s)) ∙ ap given e))
 
-  pub slate-refused : (t : Turned) → checked fine ok (turned 13 0) ≡ refused t → refuses t ≡ slateC s ok
+  pub slate-refused : (t : Turned) → checked fine ok (turned 13 0 0) ≡ refused t → refuses t ≡ slateC s ok
   unfolding lent reply
   slate-refused t e =
       sym (ap (λ (r : Ruling). reply r (slateIn s)) (two (lent ok) (slated (slateIn s)) ∙ ap given e ∙ judge-refused t (slated (slateIn s))))
 
 module _ (s : HsdSlate) (ok : Bool) (t : Turned) (e : refuses t ≡ slateC s ok) where
-  first : checked (checked fine ok (turned 13 0)) (goodSlate (slateIn s)) (turned 13 0) ≡ refused t
+  first : checked (checked fine ok (turned 13 0 0)) (goodSlate (slateIn s)) (turned 13 0 0) ≡ refused t
   unfolding lent slated
   first = sym (two (lent ok) (slated (slateIn s))) ∙ turned-away (judge fine (tables (lent ok ∷ slated (slateIn s) ∷ []))) (slateIn s) t (sym e)
 
@@ -117,13 +117,13 @@ module _ (s : HsdSlate) (m : List ℕ) (t : Turned) where
 
   pub lent-offered : refuses t ≡ slateC s (goodMarks m) → (size : ℕ) (f : List ℕ) → offeredC s m size f ≡ refused t
   unfolding offering ready slated tables
-  lent-offered e size f = lent-refused s (goodMarks m) t e (row (noneAbove (s .total) (marksIn m)) 13 0 ∷ row (eqb size (frameSize (slateIn s))) 14 0 ∷ (checks f ++ (placing (slateIn s) (marksIn m) f ++ [])))
+  lent-offered e size f = lent-refused s (goodMarks m) t e (row (noneAbove (s .total) (marksIn m)) 13 0 0 ∷ row (eqb size (frameSize (slateIn s))) 14 0 0 ∷ (checks f ++ (placing (slateIn s) (marksIn m) f ++ [])))
 
   pub lent-line : refuses t ≡ slateC s (goodMarks m) → (frame leader : List ℕ) (n : ℕ) → lineC s m frame leader n ≡ []
   unfolding lineC lineOf lineGood checked
   lent-line e frame leader n = go (goodMarks m) (goodSlate (slateIn s)) refl refl (first s (goodMarks m) t e)
     where
-      go : (g h : Bool) → goodMarks m ≡ g → goodSlate (slateIn s) ≡ h → checked (checked fine g (turned 13 0)) h (turned 13 0) ≡ refused t → lineC s m frame leader n ≡ []
+      go : (g h : Bool) → goodMarks m ≡ g → goodSlate (slateIn s) ≡ h → checked (checked fine g (turned 13 0 0)) h (turned 13 0 0) ≡ refused t → lineC s m frame leader n ≡ []
       go true true eg eh x = absurd (let z : _≡_ {A = ℕ} 0 1 = cc in omega arith)
       go true false eg eh x = rw (eg, eh)
       go false h eg eh x = rw eg

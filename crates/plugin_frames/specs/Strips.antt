@@ -35,7 +35,7 @@ goodMarks m = longMarks m && bitsFrom m 0
 
 -- 13 SLATE: the lent marks will do
 unfoldable pub lent : Bool → List Row
-lent ok = row ok 13 0 ∷ []
+lent ok = row ok 13 0 0 ∷ []
 
 -- the first n marks that bytes stand for
 unfoldable pub flags : List ℕ → ℕ → List Bool

@@ -62,7 +62,7 @@ fn record_of(marks: &[u8]) -> Record
 fn slate_of(s: HsdSlate, marked: bool) -> Slated
     ensures { λ r. ⌜ paperSlate r ≡ slateC s marked ⌝ }
 {
-    let v = rules::check(Verdict::Fine, marked, Why::Slate, 0);
+    let v = rules::check(Verdict::Fine, marked, Why::Slate, 0, 0);
     match v {
         Verdict::Refused(t) => Slated::Refused(t),
         Verdict::Fine => Slate::new(

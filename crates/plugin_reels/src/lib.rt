@@ -13,6 +13,8 @@ pub struct HsdReel {
     pub refusal: u8,
     pub block: u8,
     pub files: u16,
+    // of a file's refusal, from that file's first byte
+    pub offset: u32,
 }
 
 // Where a file stands in a reel.
@@ -33,6 +35,7 @@ pub extern "C" fn hsd_reel_open(reel: &[u8]) -> HsdReel
             refusal: 0,
             block: 0,
             files: n,
+            offset: 0,
         },
         Opened::Refused(t) => {
             let why = t.why;
@@ -40,6 +43,7 @@ pub extern "C" fn hsd_reel_open(reel: &[u8]) -> HsdReel
                 refusal: rules::number_of(why),
                 block: t.block,
                 files: 0,
+                offset: t.offset,
             }
         }
     }

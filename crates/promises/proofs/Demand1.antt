@@ -147,9 +147,9 @@ pub of-day : (κ : _) (a : _) (r : _) (t : _) → day-of.Post κ a r t → (u : 
 unfolding dayOf allowed
 of-day κ a r t p u e = told (real (a .0) (a .1 .0) (a .1 .1 .0)) (dayAt (a .0) (a .1 .0) (a .1 .1 .0)) (sym p ∙ e)
   where
-    told : (b : Bool) (n : ℕ) → cond b (says n) (refuses (turned 10 1)) ≡ refuses u → allowed u ≡ true
+    told : (b : Bool) (n : ℕ) → cond b (says n) (refuses (turned 10 1 0)) ≡ refuses u → allowed u ≡ true
     told true n e = absurd (let z : _≡_ {A = ℕ} 0 1 = cc in omega arith)
-    told false n e = let q : turned 10 1 ≡ u = cc in rw (← q)
+    told false n e = let q : turned 10 1 0 ≡ u = cc in rw (← q)
 
 pub of-date : (κ : _) (a : _) (r : _) (t : _) → date-of.Post κ a r t → (u : Turned) → paperDay r ≡ refuses u → allowed u ≡ true
 unfolding dateOf dayOf allowed
@@ -253,7 +253,7 @@ pub of-write : (κ : _) (a : _) (r : _) (t : _) → write.Post κ a r t → (u :
     → (allowed u ≡ true) × (now (t .0) ≡ now (a .0))
 of-write κ a r t p u e =
     let q = sym (p .says) ∙ e in
-    (refused-in (given _ _ _) (in-given _ _ _) u q, p .leaves ∙ left _ u _ _ q)
+    (placeless-in (given _ _ _) (in-given _ _ _) u q, p .leaves ∙ left _ u _ _ q)
 
 -- the values of a refused file are those of no bytes
 pub of-read : (κ : _) (a : _) (r : _) (t : _) → read.Post κ a r t → (u : Turned) → paper (r .verdict) ≡ refused u
@@ -318,7 +318,7 @@ of-hsd-open κ a r t p =
     )
 
 pub of-hsd-offer : (κ : _) (a : _) (r : _) (t : _) → hsd-offer.Post κ a r t
-    → (allowedC (r .refusal) (r .block) ≡ true) × ((r .refusal ≡ 0 → ⊥) → (now (t .1 .0) ≡ now (a .1 .0)) × (now (t .1 .1 .0) ≡ now (a .1 .1 .0)))
+    → (allowedC (r .refusal) (r .block) (r .offset) ≡ true) × ((r .refusal ≡ 0 → ⊥) → (now (t .1 .0) ≡ now (a .1 .0)) × (now (t .1 .1 .0) ≡ now (a .1 .1 .0)))
 unfolding offerMarks offerStrip
 of-hsd-offer κ a r t p =
     let m = now (a .1 .0) in

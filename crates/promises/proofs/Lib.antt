@@ -2,6 +2,7 @@
 pub mod OneAnswer
 pub mod Cases
 pub mod Refusals
+pub mod Offsets
 pub mod Demand1
 pub mod First
 pub mod Short

@@ -29,6 +29,7 @@ use Rattle.wire.proofs.put_u32.Reads as put-u32
 use Rattle.wire.proofs.put_u64.Reads as put-u64
 use Rattle.rules.proofs.check.Reads as check
 use Rattle.rules.proofs.number_of.Reads as number-of
+use Rattle.rules.proofs.placeless.Reads as placeless
 use Rattle.calendar.proofs.day_of.Reads as day-of
 use Rattle.calendar.proofs.good_day.Reads as good-day
 use Rattle.calendar.proofs.good_timeline.Reads as good-timeline
@@ -194,6 +195,9 @@ check-one κ a x y s t p q = paper-one x y (p ∙ sym q)
 
 pub number-of-one : One (λ κ x s. x) number-of.Post
 number-of-one κ a x y s t p q = p ∙ sym q
+
+pub placeless-one : One (λ κ x s. x) placeless.Post
+placeless-one κ a x y s t p q = paper-one x y (p ∙ sym q)
 
 pub day-of-one : One (λ κ x s. x) day-of.Post
 day-of-one κ a x y s t p q = paperDay-one x y (p ∙ sym q)

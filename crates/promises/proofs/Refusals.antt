@@ -1,11 +1,11 @@
 -- Laws of refusals: they are the paper's table's, and what is lent stays as it was.
 -- Assumes nothing.
 use mathlib.Core.Path.{_≡_, refl, sym, ap, _∙_}
-use mathlib.Core.Bool.{Bool, true, false, cond, and-eq-true-iff, or-true}
+use mathlib.Core.Bool.{Bool, true, false, not, cond, _||_, and-eq-true-iff, or-true}
 use mathlib.Core.List.{List, [], _∷_, _++_}
 use Prim.Native.Nat.{ℕ}
 use native.Mathlib.Omega.{arith}
-use Rattle.rules.specs.Rules.{Turned, turned, Row, test, Ruling, fine, refused, judge, checked, after, refuses, reply}
+use Rattle.rules.specs.Rules.{Turned, turned, Row, test, Ruling, fine, refused, judge, checked, after, refuses, reply, placeless}
 use Rattle.rules.proofs.Judge.{judge-refused, turned-away}
 use lib.Dec.{eqb, leb}
 use lib.ListN.{length, drop}
@@ -28,6 +28,20 @@ refused-in (test true u ∷ rs) h t e = refused-in rs (and-eq-true-iff (allowed 
 refused-in (test false u ∷ rs) h t e =
     let q : u ≡ t = same-turned u t (sym (judge-refused u rs) ∙ e) in
     rw (← q) (and-eq-true-iff (allowed u) (inTable rs) .0 h .0)
+
+-- an offset forgotten is 0
+forget : (n b p : ℕ) → allowed (turned n b p) ≡ true → allowed (turned n b 0) ≡ true
+unfolding allowed
+forget n b p h = rw (and-eq-true-iff (among b (blocksOf n)) (not (eqb b 0) || eqb p 0) .0 h .0) (or-true (not (eqb b 0)))
+
+-- the same of a ruling that forgets its place
+pub placeless-in : (rs : List Row) → inTable rs ≡ true → (t : Turned) → placeless (judge fine rs) ≡ refused t → allowed t ≡ true
+unfolding placeless
+placeless-in rs h t e = go (judge fine rs) refl e
+  where
+    go : (r : Ruling) → judge fine rs ≡ r → placeless r ≡ refused t → allowed t ≡ true
+    go fine f e = absurd (let z : _≡_ {A = ℕ} 0 1 = cc in omega arith)
+    go (refused (turned n b p)) f e = let q : turned n b 0 ≡ t = same-turned (turned n b 0) t e in rw (← q) (forget n b p (refused-in rs h (turned n b p) f))
 
 -- the same of an answer that carries a value
 pub refuses-in : {A : Type 0} (rs : List Row) → inTable rs ≡ true → (x : A) (t : Turned) → reply (judge fine rs) x ≡ refuses t → allowed t ≡ true
@@ -54,10 +68,10 @@ onward rs h {v} {r} e = record {
 
 -- ---- in C's numbers
 
-pub shown-allowed : (rs : List Row) → inTable rs ≡ true → (v : Ruling) → v ≡ judge fine rs → allowedC (shownRuling v .refusal) (shownRuling v .block) ≡ true
+pub shown-allowed : (rs : List Row) → inTable rs ≡ true → (v : Ruling) → v ≡ judge fine rs → allowedC (shownRuling v .refusal) (shownRuling v .block) (shownRuling v .offset) ≡ true
 unfolding shownRuling
 shown-allowed rs h fine e = refl
-shown-allowed rs h (refused (turned n b)) e = rw (refused-in rs h (turned n b) (sym e)) (or-true (eqb n 0))
+shown-allowed rs h (refused (turned n b p)) e = rw (refused-in rs h (turned n b p) (sym e)) (or-true (eqb n 0))
 
 pub shown-left : {A : Type 0} (v : Ruling) (old new : A) → (shownRuling v .refusal ≡ 0 → ⊥) → after v old new ≡ old
 unfolding shownRuling after
@@ -77,15 +91,15 @@ none-left (x ∷ line) out e = go (leb (length (x ∷ line)) (length out)) e
     go true h = absurd (omega arith)
     go false h = refl
 
-pub file-allowed : (rs : List Row) → inTable rs ≡ true → (v : Ruling) (x : Facts) → v ≡ judge fine rs → allowedC (shownFile (reply v x) .refusal) (shownFile (reply v x) .block) ≡ true
+pub file-allowed : (rs : List Row) → inTable rs ≡ true → (v : Ruling) (x : Facts) → v ≡ judge fine rs → allowedC (shownFile (reply v x) .refusal) (shownFile (reply v x) .block) (shownFile (reply v x) .offset) ≡ true
 unfolding shownFile reply
 file-allowed rs h fine x e = refl
-file-allowed rs h (refused (turned n b)) x e = rw (refused-in rs h (turned n b) (sym e)) (or-true (eqb n 0))
+file-allowed rs h (refused (turned n b p)) x e = rw (refused-in rs h (turned n b p) (sym e)) (or-true (eqb n 0))
 
-pub number-allowed : (rs : List Row) → inTable rs ≡ true → (v : Ruling) (x : ℤ) → v ≡ judge fine rs → allowedC (shownFrame (reply v x) .refusal) (shownFrame (reply v x) .block) ≡ true
+pub number-allowed : (rs : List Row) → inTable rs ≡ true → (v : Ruling) (x : ℤ) → v ≡ judge fine rs → allowedC (shownFrame (reply v x) .refusal) (shownFrame (reply v x) .block) (shownFrame (reply v x) .offset) ≡ true
 unfolding shownFrame reply
 number-allowed rs h fine x e = refl
-number-allowed rs h (refused (turned n b)) x e = rw (refused-in rs h (turned n b) (sym e)) (or-true (eqb n 0))
+number-allowed rs h (refused (turned n b p)) x e = rw (refused-in rs h (turned n b p) (sym e)) (or-true (eqb n 0))
 
 -- what is shown of no refusal is none
 pub none-fine : (n b : ℕ) → allowed (turned n b) ≡ true → n ≡ 0 → ⊥

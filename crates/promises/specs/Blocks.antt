@@ -31,8 +31,8 @@ inTable [] = true
 inTable (test ok t ∷ rs) = allowed t && inTable rs
 
 -- the same in C's numbers, where 0 is no refusal
-abbrev pub allowedC : ℕ → ℕ → Bool
-allowedC n b = eqb n 0 || allowed (turned n b)
+abbrev pub allowedC : ℕ → ℕ → ℕ → Bool
+allowedC n b p = eqb n 0 || allowed (turned n b p)
 
 -- checks made on top of a ruling v came to r: what was refused before stays so, and a new refusal is one of the table's
 pub record Onward (v r : Ruling) : Type 0 where

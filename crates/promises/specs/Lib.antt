@@ -2,6 +2,7 @@
 pub mod Answers
 pub mod Cases
 pub mod Blocks
+pub mod Fields
 pub mod Bare
 pub mod Calls
 pub mod Told

@@ -20,10 +20,10 @@ pub record ReadAs (s : List ℕ) (r : HeaderRead) : Type 0 where
 
 -- 17 ROOM: slices of x, y and z numbers hold n
 unfoldable pub rooms2 : ℕ → ℕ → ℕ → List Row
-rooms2 n x y = row (leb n x) 17 0 ∷ row (leb n y) 17 0 ∷ []
+rooms2 n x y = row (leb n x) 17 0 0 ∷ row (leb n y) 17 0 0 ∷ []
 
 unfoldable pub rooms3 : ℕ → ℕ → ℕ → ℕ → List Row
-rooms3 n x y z = row (leb n x) 17 0 ∷ row (leb n y) 17 0 ∷ row (leb n z) 17 0 ∷ []
+rooms3 n x y z = row (leb n x) 17 0 0 ∷ row (leb n y) 17 0 0 ∷ row (leb n z) 17 0 0 ∷ []
 
 -- a file's checks, and then the rooms
 abbrev pub readRuling : List ℕ → List Row → Ruling

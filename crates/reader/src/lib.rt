@@ -69,16 +69,16 @@ fn read_u64s(dst: &mut [u64], n: usize, s: &[u8], at: usize, stride: usize, orde
 fn check_rooms2(v: Verdict, n: usize, x: usize, y: usize) -> Verdict
     ensures { λ r. ⌜ paper r ≡ judge (paper v) (rooms2 n x y) ⌝ }
 {
-    let v = rules::check(v, n <= x, Why::Room, 0);
-    rules::check(v, n <= y, Why::Room, 0)
+    let v = rules::check(v, n <= x, Why::Room, 0, 0);
+    rules::check(v, n <= y, Why::Room, 0, 0)
 }
 
 fn check_rooms3(v: Verdict, n: usize, x: usize, y: usize, z: usize) -> Verdict
     ensures { λ r. ⌜ paper r ≡ judge (paper v) (rooms3 n x y z) ⌝ }
 {
-    let v = rules::check(v, n <= x, Why::Room, 0);
-    let v = rules::check(v, n <= y, Why::Room, 0);
-    rules::check(v, n <= z, Why::Room, 0)
+    let v = rules::check(v, n <= x, Why::Room, 0, 0);
+    let v = rules::check(v, n <= y, Why::Room, 0, 0);
+    rules::check(v, n <= z, Why::Room, 0, 0)
 }
 
 // Block 8's entries: their lines, column shifts and line shifts.

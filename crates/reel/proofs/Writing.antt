@@ -233,7 +233,7 @@ bounds s ls e =
 
 -- ---- the verdict
 
-made : (b : Bool) → b ≡ true → fine ≡ checked fine b (turned 18 0)
+made : (b : Bool) → b ≡ true → fine ≡ checked fine b (turned 18 0 0)
 unfolding checked
 made b e = rw e
 
@@ -241,11 +241,11 @@ pub first-row : (b : Bool) (u : Turned) (ts : List (List Row)) → b ≡ false �
 unfolding tables checked
 first-row b u ts e = rw e (judge-refused u (tables ts))
 
-pub writing-bad : (s ls : List ℕ) (need room : ℕ) → goodList s ls ≡ false → judge fine (writing s ls need room) ≡ refused (turned 18 0)
+pub writing-bad : (s ls : List ℕ) (need room : ℕ) → goodList s ls ≡ false → judge fine (writing s ls need room) ≡ refused (turned 18 0 0)
 unfolding writing
-writing-bad s ls need room e = first-row (goodList s ls) (turned 18 0) _ e
+writing-bad s ls need room e = first-row (goodList s ls) (turned 18 0 0) _ e
 
-pub writing-good : (s ls : List ℕ) (need room : ℕ) {v r : Ruling} {ok : Bool} → goodList s ls ≡ true → v ≡ judge fine (filed (listed s ls)) → r ≡ checked v ok (turned 17 0) → ok ≡ leb need room
+pub writing-good : (s ls : List ℕ) (need room : ℕ) {v r : Ruling} {ok : Bool} → goodList s ls ≡ true → v ≡ judge fine (filed (listed s ls)) → r ≡ checked v ok (turned 17 0 0) → ok ≡ leb need room
     → r ≡ judge fine (writing s ls need room)
 unfolding writing
 writing-good s ls need room g a b c = tried (table (judged (also (made (goodList s ls) g) refl none)) (table a (table (judged (also b c none)) last)))

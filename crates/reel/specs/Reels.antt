@@ -74,7 +74,7 @@ Good (f ∷ fs) = (judge fine (checks f) ≡ fine) × Good fs
 
 -- 18 REEL, and then the parts: a part that fails answers with that file's own refusal
 unfoldable pub opening : List ℕ → List Row
-opening s = tables ((row (sound s) 18 0 ∷ []) ∷ filed (partsOf s) ∷ [])
+opening s = tables ((row (sound s) 18 0 0 ∷ []) ∷ filed (partsOf s) ∷ [])
 
 unfoldable pub paperOpened : Opened → Reply ℕ
 paperOpened (Files n) = says n

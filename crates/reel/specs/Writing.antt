@@ -33,7 +33,7 @@ goodList files lengths =
 -- 18 REEL, then the files' own refusals, and last 17 ROOM
 unfoldable pub writing : List ℕ → List ℕ → ℕ → ℕ → List Row
 writing files lengths need room =
-    tables ((row (goodList files lengths) 18 0 ∷ []) ∷ filed (listed files lengths) ∷ (row (leb need room) 17 0 ∷ []) ∷ [])
+    tables ((row (goodList files lengths) 18 0 0 ∷ []) ∷ filed (listed files lengths) ∷ (row (leb need room) 17 0 0 ∷ []) ∷ [])
 
 -- ---- what is written
 

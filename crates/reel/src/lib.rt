@@ -113,7 +113,7 @@ fn check_parts(v: Verdict, s: &[u8], to: u32, n: u16) -> Verdict
 pub fn check_reel(v: Verdict, s: &[u8]) -> Verdict
     ensures { λ r. ⌜ paper r ≡ judge (paper v) (opening (now (s .entry))) ⌝ }
 {
-    let v = rules::check(v, is_sound(s), Why::Reel, 0);
+    let v = rules::check(v, is_sound(s), Why::Reel, 0, 0);
     check_parts(v, s, trailer_at(s), files_in(s))
 }
 
@@ -229,10 +229,17 @@ fn check_list(files: &[u8], lengths: &[u32], at: usize, room: usize) -> Verdict
         return Verdict::Refused(Refusal {
             why: Why::Reel,
             block: 0,
+            offset: 0,
         });
     }
     let v = check_cut(Verdict::Fine, files, lengths);
-    rules::check(v, at + trailer_length(lengths.len()) <= room, Why::Room, 0)
+    rules::check(
+        v,
+        at + trailer_length(lengths.len()) <= room,
+        Why::Room,
+        0,
+        0,
+    )
 }
 
 // Stores the entries of files of these lengths.

@@ -6,7 +6,7 @@ use mathlib.Core.Logic.{_↔_}
 use mathlib.Core.Bool.{Bool, true, false}
 use Prim.Native.Nat.{ℕ}
 use native.Mathlib.Omega.{arith}
-use Rattle.rules.specs.Rules.{Row, test, Turned, checked, judge, First, here, later, tables, Ruling, fine, refused, Reply, says, refuses, reply}
+use Rattle.rules.specs.Rules.{Row, test, Turned, turned, placeless, checked, judge, First, here, later, tables, Ruling, fine, refused, Reply, says, refuses, reply}
 
 pub judge-append : (v : Ruling) (xs ys : List Row) → judge v (xs ++ ys) ≡ judge (judge v xs) ys
 judge-append v [] ys = refl
@@ -27,6 +27,11 @@ pub turned-away : {A : Type 0} (r : Ruling) (x : A) (t : Turned) → reply r x �
 unfolding reply
 turned-away fine x t e = absurd (let z : _≡_ {A = ℕ} 0 1 = cc in omega arith)
 turned-away (refused u) x t e = cc
+
+pub placeless-fine : (r : Ruling) → placeless r ≡ fine → r ≡ fine
+unfolding placeless
+placeless-fine fine e = refl
+placeless-fine (refused (turned n b p)) e = absurd (let z : _≡_ {A = ℕ} 0 1 = cc in omega arith)
 
 -- every test of the table holds
 abbrev pub Holds : List Row → Type 0

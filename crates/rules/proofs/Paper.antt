@@ -6,7 +6,7 @@ use Prim.Native.Nat.{ℕ}
 use lib.Dec.{eqb}
 use Rattle.rules.specs.Rules.{numberOf, Turned, turned, paperOf, Ruling, fine, refused, paper}
 use Rattle.rules.specs.declared.Why.{Why}
-use Rattle.rules.specs.declared.Why.the-variants.{Short, Number, Order, Length, Fixed, Packed, Field, HeaderSum, DataSum, Name, Cut, Tail, Slate, Strip, OtherShot, Already, Room, Reel}
+use Rattle.rules.specs.declared.Why.the-variants.{Short, Number, Order, Length, Fixed, Packed, HeaderSum, DataSum, Name, Cut, Tail, Slate, Strip, OtherShot, Already, Room, Reel, Satellite, Area, Timeline, Size, Compression, Band, Bits, Segment, Day}
 use Rattle.rules.specs.declared.Refusal.{Refusal}
 use Rattle.rules.specs.declared.Verdict.{Verdict}
 use Rattle.rules.specs.declared.Verdict.the-variants.{Fine, Refused}
@@ -24,7 +24,6 @@ named n =
     (when (eqb n 4) Length
     (when (eqb n 5) Fixed
     (when (eqb n 6) Packed
-    (when (eqb n 7) Field
     (when (eqb n 8) HeaderSum
     (when (eqb n 9) DataSum
     (when (eqb n 10) Name
@@ -34,7 +33,16 @@ named n =
     (when (eqb n 14) Strip
     (when (eqb n 15) OtherShot
     (when (eqb n 16) Already
-    (when (eqb n 17) Room Reel))))))))))))))))
+    (when (eqb n 17) Room
+    (when (eqb n 18) Reel
+    (when (eqb n 31) Satellite
+    (when (eqb n 32) Area
+    (when (eqb n 33) Timeline
+    (when (eqb n 34) Size
+    (when (eqb n 35) Compression
+    (when (eqb n 36) Band
+    (when (eqb n 37) Bits
+    (when (eqb n 38) Segment Day))))))))))))))))))))))))
 
 pub named-number : (w : Why) → named (numberOf w) ≡ w
 unfolding named
@@ -44,7 +52,6 @@ named-number Order = refl
 named-number Length = refl
 named-number Fixed = refl
 named-number Packed = refl
-named-number Field = refl
 named-number HeaderSum = refl
 named-number DataSum = refl
 named-number Name = refl
@@ -56,13 +63,22 @@ named-number OtherShot = refl
 named-number Already = refl
 named-number Room = refl
 named-number Reel = refl
+named-number Satellite = refl
+named-number Area = refl
+named-number Timeline = refl
+named-number Size = refl
+named-number Compression = refl
+named-number Band = refl
+named-number Bits = refl
+named-number Segment = refl
+named-number Day = refl
 
 unfoldable pub refusalOf : Turned → Refusal
-refusalOf (turned n b) = record { why = named n; block = b }
+refusalOf (turned n b p) = record { why = named n; block = b; offset = p }
 
 pub refusal-paper : (t : Refusal) → refusalOf (paperOf t) ≡ t
 unfolding refusalOf
-refusal-paper t = λ i. record { why = named-number (t .why) i; block = t .block }
+refusal-paper t = λ i. record { why = named-number (t .why) i; block = t .block; offset = t .offset }
 
 unfoldable pub verdictOf : Ruling → Verdict
 verdictOf fine = Fine

@@ -4,7 +4,7 @@ use mathlib.Core.Path.{_≡_}
 use mathlib.Core.List.{List, [], _∷_, _++_}
 use mathlib.Core.Bool.{Bool, true, false}
 use Rattle.rules.specs.declared.Why.{Why}
-use Rattle.rules.specs.declared.Why.the-variants.{Short, Number, Order, Length, Fixed, Packed, Field, HeaderSum, DataSum, Name, Cut, Tail, Slate, Strip, OtherShot, Already, Room, Reel}
+use Rattle.rules.specs.declared.Why.the-variants.{Short, Number, Order, Length, Fixed, Packed, HeaderSum, DataSum, Name, Cut, Tail, Slate, Strip, OtherShot, Already, Room, Reel, Satellite, Area, Timeline, Size, Compression, Band, Bits, Segment, Day}
 use Rattle.rules.specs.declared.Refusal.{Refusal}
 use Rattle.rules.specs.declared.Verdict.{Verdict}
 use Rattle.rules.specs.declared.Verdict.the-variants as verdicts
@@ -17,7 +17,6 @@ numberOf Order = 3
 numberOf Length = 4
 numberOf Fixed = 5
 numberOf Packed = 6
-numberOf Field = 7
 numberOf HeaderSum = 8
 numberOf DataSum = 9
 numberOf Name = 10
@@ -29,13 +28,22 @@ numberOf OtherShot = 15
 numberOf Already = 16
 numberOf Room = 17
 numberOf Reel = 18
+numberOf Satellite = 31
+numberOf Area = 32
+numberOf Timeline = 33
+numberOf Size = 34
+numberOf Compression = 35
+numberOf Band = 36
+numberOf Bits = 37
+numberOf Segment = 38
+numberOf Day = 39
 
--- what the paper says with a refusal: its number and block
+-- what the paper says with a refusal: its number, its block and the offset of the field at fault
 pub data Turned : Type 0 where
-  turned : ℕ → ℕ → Turned
+  turned : ℕ → ℕ → ℕ → Turned
 
 abbrev pub paperOf : Refusal → Turned
-paperOf t = turned (numberOf (t .why)) (t .block)
+paperOf t = turned (numberOf (t .why)) (t .block) (t .offset)
 
 -- what the paper says after some checks: nothing is wrong, or a refusal
 pub data Ruling : Type 0 where
@@ -50,8 +58,8 @@ paper (verdicts.Refused t) = refused (paperOf t)
 pub data Row : Type 0 where
   test : Bool → Turned → Row
 
-abbrev pub row : Bool → ℕ → ℕ → Row
-row ok number block = test ok (turned number block)
+abbrev pub row : Bool → ℕ → ℕ → ℕ → Row
+row ok number block offset = test ok (turned number block offset)
 
 -- one check more, on top of what the checks before it said
 unfoldable pub checked : Ruling → Bool → Turned → Ruling
@@ -73,6 +81,11 @@ pub data First : List Row → Turned → Type 0 where
 unfoldable pub tables : List (List Row) → List Row
 tables [] = []
 tables (t ∷ ts) = t ++ tables ts
+
+-- the ruling on values that come from no file: its offset is 0
+unfoldable pub placeless : Ruling → Ruling
+placeless fine = fine
+placeless (refused (turned n b p)) = refused (turned n b 0)
 
 -- what a function answers in the paper's words: a value, or a refusal
 pub data Reply (A : Type 0) : Type 0 where

@@ -1,6 +1,6 @@
 // Refusals: why a file, a slate or a lent slice is turned away, and the verdict of checks made one after the other.
 ghost use mathlib.Core.Path.{_≡_};
-ghost use Rattle.rules.specs.Rules.{numberOf, turned, paper, checked};
+ghost use Rattle.rules.specs.Rules.{numberOf, turned, paper, checked, placeless};
 
 // Why something is turned away; `numberOf` in specs/ has the paper's number of each.
 pub enum Why {
@@ -10,7 +10,6 @@ pub enum Why {
     Length,
     Fixed,
     Packed,
-    Field,
     HeaderSum,
     DataSum,
     Name,
@@ -22,12 +21,25 @@ pub enum Why {
     Already,
     Room,
     Reel,
+    Satellite,
+    Area,
+    Timeline,
+    // columns or lines
+    Size,
+    Compression,
+    Band,
+    Bits,
+    // segment numbers or first line
+    Segment,
+    Day,
 }
 
-// A refusal, and the block that it concerns: 0 where it concerns none, 12 for the counts.
+// A refusal; the block that it concerns, 0 where it concerns none and 12 for the counts; and where the field at fault stands, from the
+// file's first byte: 0 in block 0, and for values that come from no file.
 pub struct Refusal {
     pub why: Why,
     pub block: u8,
+    pub offset: u32,
 }
 
 // What the checks so far say: nothing is wrong, or the refusal.
@@ -37,8 +49,8 @@ pub enum Verdict {
 }
 
 // One check more: the first that fails answers.
-pub fn check(v: Verdict, ok: bool, why: Why, block: u8) -> Verdict
-    ensures { λ r. ⌜ paper r ≡ checked (paper v) ok (turned (numberOf why) block) ⌝ }
+pub fn check(v: Verdict, ok: bool, why: Why, block: u8, offset: u32) -> Verdict
+    ensures { λ r. ⌜ paper r ≡ checked (paper v) ok (turned (numberOf why) block offset) ⌝ }
 {
     match v {
         Verdict::Refused(t) => Verdict::Refused(t),
@@ -46,9 +58,27 @@ pub fn check(v: Verdict, ok: bool, why: Why, block: u8) -> Verdict
             if ok {
                 Verdict::Fine
             } else {
-                Verdict::Refused(Refusal { why, block })
+                Verdict::Refused(Refusal { why, block, offset })
             }
         }
+    }
+}
+
+// The verdict on values that come from no file: a refusal without its place.
+pub fn placeless(v: Verdict) -> Verdict
+    ensures { λ r. ⌜ paper r ≡ placeless (paper v) ⌝ }
+{
+    match v {
+        Verdict::Refused(t) => {
+            let why = t.why;
+            let block = t.block;
+            Verdict::Refused(Refusal {
+                why,
+                block,
+                offset: 0,
+            })
+        }
+        Verdict::Fine => Verdict::Fine,
     }
 }
 
@@ -63,7 +93,6 @@ pub fn number_of(why: Why) -> u8
         Why::Length => 4,
         Why::Fixed => 5,
         Why::Packed => 6,
-        Why::Field => 7,
         Why::HeaderSum => 8,
         Why::DataSum => 9,
         Why::Name => 10,
@@ -75,5 +104,14 @@ pub fn number_of(why: Why) -> u8
         Why::Already => 16,
         Why::Room => 17,
         Why::Reel => 18,
+        Why::Satellite => 31,
+        Why::Area => 32,
+        Why::Timeline => 33,
+        Why::Size => 34,
+        Why::Compression => 35,
+        Why::Band => 36,
+        Why::Bits => 37,
+        Why::Segment => 38,
+        Why::Day => 39,
     }
 }

@@ -29,7 +29,7 @@ goodSlate s = goodShot s && goodSize (s .columns) && goodTotal (s .total) && goo
 
 -- 13 SLATE
 unfoldable pub slated : Slate → List Row
-slated s = row (goodSlate s) 13 0 ∷ []
+slated s = row (goodSlate s) 13 0 0 ∷ []
 
 unfoldable pub paperSlate : Slated → Reply Slate
 paperSlate (Made s) = says s

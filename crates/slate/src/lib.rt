@@ -81,7 +81,7 @@ impl Slate {
     pub fn check(self, v: Verdict) -> Verdict
         ensures { λ r. ⌜ paper r ≡ judge (paper v) (slated self) ⌝ }
     {
-        rules::check(v, self.is_good(), Why::Slate, 0)
+        rules::check(v, self.is_good(), Why::Slate, 0, 0)
     }
 
     pub fn is_good(self) -> bool

@@ -314,7 +314,7 @@ spelled satellite date timeline band area number total hs ht hb hr hn hl =
     (grouped (text "HS_H" ++ (twoDigits satellite ++ text "_")) date (text "_" ++ (fourDigits timeline ++ (text "_B" ++ (twoDigits band ++ text "_")))) area
     (text "_R" ++ (twoDigits (bandOf band .resolution) ++ (text "_S" ++ (twoDigits number ++ (twoDigits total ++ text ".DAT"))))) (replicate 85 0))
 
-day-is : (b c : Bool) (x : ℕ) → isDay (cond b (cond c (says x) (refuses (turned 10 1))) (refuses (turned 10 1))) ≡ true → (b ≡ true) × (c ≡ true)
+day-is : (b c : Bool) (x : ℕ) → isDay (cond b (cond c (says x) (refuses (turned 10 1 0))) (refuses (turned 10 1 0))) ≡ true → (b ≡ true) × (c ≡ true)
 day-is true true x e = (refl, refl)
 day-is true false x e = absurd (let z : _≡_ {A = ℕ} 0 1 = cc in omega arith)
 day-is false c x e = absurd (let z : _≡_ {A = ℕ} 0 1 = cc in omega arith)

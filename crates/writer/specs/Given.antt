@@ -4,7 +4,7 @@ use mathlib.Core.Path.{_≡_}
 use mathlib.Core.List.{List, [], _∷_, _++_}
 use lib.ListN.{length, drop}
 use lib.Dec.{leb, eqb}
-use Rattle.rules.specs.Rules.{Row, row, tables, judge, Ruling, fine, paper, after}
+use Rattle.rules.specs.Rules.{Row, row, tables, judge, Ruling, fine, paper, after, placeless}
 use Rattle.rules.specs.declared.Verdict.{Verdict}
 use Rattle.header.specs.declared.Header.{Header}
 use Rattle.header.specs.Places.{headerLength}
@@ -13,23 +13,23 @@ use Rattle.accept.specs.Checks.{fields1, fields2, fields5, fields7, names}
 
 -- block 1: 3 ORDER
 unfoldable pub orders : ℕ → List Row
-orders o = row (leb o 1) 3 1 ∷ []
+orders o = row (leb o 1) 3 1 0 ∷ []
 
 -- block 8: 4 LENGTH, a above 6,547 or parts that differ in number
 unfoldable pub lengths8 : ℕ → ℕ → ℕ → List Row
-lengths8 a x y = row (leb a 6547) 4 8 ∷ row (eqb x a) 4 8 ∷ row (eqb y a) 4 8 ∷ []
+lengths8 a x y = row (leb a 6547) 4 8 0 ∷ row (eqb x a) 4 8 0 ∷ row (eqb y a) 4 8 0 ∷ []
 
 -- block 9: b above 6,549
 unfoldable pub lengths9 : ℕ → ℕ → List Row
-lengths9 b t = row (leb b 6549) 4 9 ∷ row (eqb t b) 4 9 ∷ []
+lengths9 b t = row (leb b 6549) 4 9 0 ∷ row (eqb t b) 4 9 0 ∷ []
 
 -- block 10: c above 65,535
 unfoldable pub lengths10 : ℕ → ℕ → List Row
-lengths10 c p = row (leb c 65535) 4 10 ∷ row (eqb p c) 4 10 ∷ []
+lengths10 c p = row (leb c 65535) 4 10 0 ∷ row (eqb p c) 4 10 0 ∷ []
 
 -- 17 ROOM: n bytes of output are not shorter than the header
 unfoldable pub room : ℕ → ℕ → ℕ → ℕ → List Row
-room a b c n = row (leb (headerLength a b c) n) 17 0 ∷ []
+room a b c n = row (leb (headerLength a b c) n) 17 0 0 ∷ []
 
 -- every check of the writer, for values, entries and n bytes of output
 unfoldable pub given : Header → Entries → ℕ → List Row
@@ -48,9 +48,9 @@ given v e n =
     ∷ []
     )
 
--- the writer's ruling
+-- the writer's ruling: values come from no file, so that its refusals have no place in one
 abbrev pub ruled : Header → Entries → ℕ → Ruling
-ruled v e n = judge fine (given v e n)
+ruled v e n = placeless (judge fine (given v e n))
 
 -- l was lent, the verdict is r, and out stands there afterwards: the header and then the rest as it was, or all as it was
 pub record Wrote (l : List ℕ) (v : Header) (e : Entries) (r : Verdict) (out : List ℕ) : Type 0 where

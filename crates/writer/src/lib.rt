@@ -226,29 +226,29 @@ fn write_all(
 fn check_order(v: Verdict, order: u8) -> Verdict
     ensures { λ r. ⌜ paper r ≡ judge (paper v) (orders order) ⌝ }
 {
-    rules::check(v, order <= 1, Why::Order, 1)
+    rules::check(v, order <= 1, Why::Order, 1, 0)
 }
 
 fn check_lengths8(v: Verdict, a: usize, x: usize, y: usize) -> Verdict
     ensures { λ r. ⌜ paper r ≡ judge (paper v) (lengths8 a x y) ⌝ }
 {
-    let v = rules::check(v, a <= 6547, Why::Length, 8);
-    let v = rules::check(v, x == a, Why::Length, 8);
-    rules::check(v, y == a, Why::Length, 8)
+    let v = rules::check(v, a <= 6547, Why::Length, 8, 0);
+    let v = rules::check(v, x == a, Why::Length, 8, 0);
+    rules::check(v, y == a, Why::Length, 8, 0)
 }
 
 fn check_lengths9(v: Verdict, b: usize, t: usize) -> Verdict
     ensures { λ r. ⌜ paper r ≡ judge (paper v) (lengths9 b t) ⌝ }
 {
-    let v = rules::check(v, b <= 6549, Why::Length, 9);
-    rules::check(v, t == b, Why::Length, 9)
+    let v = rules::check(v, b <= 6549, Why::Length, 9, 0);
+    rules::check(v, t == b, Why::Length, 9, 0)
 }
 
 fn check_lengths10(v: Verdict, c: usize, p: usize) -> Verdict
     ensures { λ r. ⌜ paper r ≡ judge (paper v) (lengths10 c p) ⌝ }
 {
-    let v = rules::check(v, c <= 65535, Why::Length, 10);
-    rules::check(v, p == c, Why::Length, 10)
+    let v = rules::check(v, c <= 65535, Why::Length, 10, 0);
+    rules::check(v, p == c, Why::Length, 10, 0)
 }
 
 // Whether n bytes are not shorter than a header of so many entries: no product that could overflow.
@@ -276,7 +276,7 @@ fn has_room(a: usize, b: usize, c: usize, n: usize) -> bool
 fn check_room(v: Verdict, a: usize, b: usize, c: usize, n: usize) -> Verdict
     ensures { λ r. ⌜ paper r ≡ judge (paper v) (room a b c n) ⌝ }
 {
-    rules::check(v, has_room(a, b, c, n), Why::Room, 0)
+    rules::check(v, has_room(a, b, c, n), Why::Room, 0, 0)
 }
 
 // Judges the values and entries that a header is to be written of, and the room of n bytes.
@@ -311,7 +311,8 @@ fn check_given(
     let v = check_lengths9(v, lines9.len(), times.len());
     let v = check_lengths10(v, lines10.len(), pixels.len());
     let v = accept::check_name(v, block1, block5, block7);
-    check_room(v, lines8.len(), lines9.len(), lines10.len(), n)
+    let v = check_room(v, lines8.len(), lines9.len(), lines10.len(), n);
+    rules::placeless(v)
 }
 
 // Writes a header, or says why not and leaves every byte as it was.

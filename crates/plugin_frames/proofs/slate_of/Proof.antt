@@ -6,7 +6,7 @@ use borrow.Author.Needs.{needs}
 use Rattle.plugin_frames.proofs.slate_of.Statement.{statement}
 use Rattle.plugin_frames.proofs.slate_of.Tie as tie
 
-told : (c : tie.After-check) → checked fine (c .before .args .marked) (turned 13 0) ≡ paper (c .check .result)
+told : (c : tie.After-check) → checked fine (c .before .args .marked) (turned 13 0 0) ≡ paper (c .check .result)
 unfolding paper
 told c = sym (c .check .ensures)
 

@@ -1,5 +1,6 @@
 -- `check_given`: its tables, one after the other.
-use Rattle.rules.specs.Rules.{paper}
+use mathlib.Core.Path.{ap, _∙_}
+use Rattle.rules.specs.Rules.{paper, placeless}
 use Rattle.rules.proofs.Judge.{tried, table, last}
 use Rattle.writer.specs.Given.{given}
 use borrow.Author.Needs.{needs}
@@ -9,7 +10,8 @@ use Rattle.writer.proofs.check_given.Tie as tie
 returns : tie.Need-returns
 unfolding paper given
 returns c =
-    let c9 = c .before in
+    let c10 = c .before in
+    let c9 = c10 .before in
     let c8 = c9 .before in
     let c7 = c8 .before in
     let c6 = c7 .before in
@@ -18,7 +20,8 @@ returns c =
     let c3 = c4 .before in
     let c2 = c3 .before in
     let c1 = c2 .before in
-    tried
+    c .placeless .ensures
+    ∙ ap placeless (tried
     (table (c1 .check-order .ensures)
     (table (c2 .check-fields1 .ensures)
     (table (c3 .check-fields2 .ensures)
@@ -28,12 +31,13 @@ returns c =
     (table (c7 .check-lengths9 .ensures)
     (table (c8 .check-lengths10 .ensures)
     (table (c9 .check-name .ensures)
-    (table (c .check-room .ensures) last))))))))))
+    (table (c10 .check-room .ensures) last)))))))))))
 
 pub check-given-spec : {M : Type 1} → statement M
 check-given-spec =
     tie.close
     (tie.spec
+    (λ c κs. search needs)
     (λ c κs. search needs)
     (λ c κs. search needs)
     (λ c κs. search needs)
