@@ -1,12 +1,12 @@
 -- A table of checks judged in parts, and what it means that none fails.
 -- Assumes nothing.
-use mathlib.Core.Path.{_≡_, refl, sym, _∙_}
+use mathlib.Core.Path.{_≡_, refl, sym, ap, _∙_}
 use mathlib.Core.List.{List, [], _∷_, _++_}
 use mathlib.Core.Logic.{_↔_}
 use mathlib.Core.Bool.{Bool, true, false}
 use Prim.Native.Nat.{ℕ}
 use native.Mathlib.Omega.{arith}
-use Rattle.rules.specs.Rules.{Row, test, Turned, turned, placeless, checked, judge, First, here, later, tables, Ruling, fine, refused, Reply, says, refuses, reply}
+use Rattle.rules.specs.Rules.{Row, test, Turned, turned, placeless, unplaced, checked, judge, First, here, later, tables, Ruling, fine, refused, Reply, says, refuses, reply}
 
 pub judge-append : (v : Ruling) (xs ys : List Row) → judge v (xs ++ ys) ≡ judge (judge v xs) ys
 judge-append v [] ys = refl
@@ -28,10 +28,18 @@ unfolding reply
 turned-away fine x t e = absurd (let z : _≡_ {A = ℕ} 0 1 = cc in omega arith)
 turned-away (refused u) x t e = cc
 
-pub placeless-fine : (r : Ruling) → placeless r ≡ fine → r ≡ fine
-unfolding placeless
-placeless-fine fine e = refl
-placeless-fine (refused (turned n b p)) e = absurd (let z : _≡_ {A = ℕ} 0 1 = cc in omega arith)
+-- a table without places says what the table says, without its place
+unplaced-check : (v : Ruling) (ok : Bool) (n b p : ℕ) → checked (placeless v) ok (turned n b 0) ≡ placeless (checked v ok (turned n b p))
+unfolding checked placeless
+unplaced-check (refused (turned m c q)) ok n b p = refl
+unplaced-check fine true n b p = refl
+unplaced-check fine false n b p = refl
+
+pub judge-unplaced : (v : Ruling) (rs : List Row) → judge (placeless v) (unplaced rs) ≡ placeless (judge v rs)
+unfolding unplaced
+judge-unplaced v [] = refl
+judge-unplaced v (test ok (turned n b p) ∷ rs) =
+    ap (λ (w : Ruling). judge w (unplaced rs)) (unplaced-check v ok n b p) ∙ judge-unplaced (checked v ok (turned n b p)) rs
 
 -- every test of the table holds
 abbrev pub Holds : List Row → Type 0
@@ -51,6 +59,12 @@ holds-fine : (rs : List Row) → Holds rs → judge fine rs ≡ fine
 unfolding checked
 holds-fine [] h = refl
 holds-fine (test ok t ∷ rs) h = rw (h .0, holds-fine rs (h .1))
+
+-- and the same tests hold of it
+pub holds-unplaced : (rs : List Row) → Holds (unplaced rs) ↔ Holds rs
+unfolding unplaced
+holds-unplaced [] = (λ h. h, λ h. h)
+holds-unplaced (test ok (turned n b p) ∷ rs) = (λ h. (h .0, holds-unplaced rs .0 (h .1)), λ h. (h .0, holds-unplaced rs .1 (h .1)))
 
 -- all rows hold exactly when nothing is refused
 pub exactly : (rs : List Row) → (judge fine rs ≡ fine) ↔ Holds rs

@@ -82,10 +82,14 @@ unfoldable pub tables : List (List Row) → List Row
 tables [] = []
 tables (t ∷ ts) = t ++ tables ts
 
--- the ruling on values that come from no file: its offset is 0
+-- values that come from no file have no place in one: the offset is 0, in a ruling and in every row of a table
 unfoldable pub placeless : Ruling → Ruling
 placeless fine = fine
 placeless (refused (turned n b p)) = refused (turned n b 0)
+
+unfoldable pub unplaced : List Row → List Row
+unplaced [] = []
+unplaced (test ok (turned n b p) ∷ rs) = test ok (turned n b 0) ∷ unplaced rs
 
 -- what a function answers in the paper's words: a value, or a refusal
 pub data Reply (A : Type 0) : Type 0 where

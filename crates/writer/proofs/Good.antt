@@ -1,13 +1,13 @@
 -- What the checks leave where nothing is wrong, which is all that they ask for.
 -- Assumes nothing.
-use mathlib.Core.Path.{_≡_, ap}
+use mathlib.Core.Path.{_≡_}
 use mathlib.Core.Bool.{true, and-eq-true-iff}
 use Prim.Native.Nat.{ℕ, _≤_}
 use lib.ListN.{length}
 use lib.Dec.{leb}
 use borrow.Author.Tests.{leb-true, le-leb, eqb-true, eq-eqb}
-use Rattle.rules.specs.Rules.{fine, placeless}
-use Rattle.rules.proofs.Judge.{Holds, exactly, holds, each-is, each-of, placeless-fine}
+use Rattle.rules.specs.Rules.{fine}
+use Rattle.rules.proofs.Judge.{Holds, exactly, holds, each-is, each-of, holds-unplaced}
 use Rattle.format.specs.Ranges.{goodSize}
 use Rattle.accept.specs.Checks.{fields1, fields2, fields5, fields7, names}
 use Rattle.header.specs.declared.Header.{Header}
@@ -36,7 +36,7 @@ size-most n e = leb-true n 22000 (and-eq-true-iff (leb 1 n) (leb n 22000) .0 e .
 pub good-is : (v : Header) (e : Entries) (n : ℕ) → ruled v e n ≡ fine → Good v e × Roomy e n
 unfolding given orders fields2 lengths8 lengths9 lengths10 room
 good-is v e n q =
-    let h = each-is _ (exactly (given v e n) .0 (placeless-fine _ q)) in
+    let h = each-is _ (holds-unplaced _ .0 (exactly (given v e n) .0 q)) in
     let h2 = h .1 .1 .0 in
     let h8 = h .1 .1 .1 .1 .1 .0 in
     let h9 = h .1 .1 .1 .1 .1 .1 .0 in
@@ -64,11 +64,11 @@ good-is v e n q =
     )
 
 pub good-of : (v : Header) (e : Entries) (n : ℕ) → Good v e → Roomy e n → ruled v e n ≡ fine
-unfolding placeless given orders lengths8 lengths9 lengths10 room
+unfolding given orders lengths8 lengths9 lengths10 room
 good-of v e n g r =
     let f = g .fits in
-    ap placeless (exactly (given v e n) .1
-    (each-of _
+    exactly (given v e n) .1
+    (holds-unplaced _ .1 (each-of _
     (holds (holds (le-leb _ _ (g .order)) tt)
     (holds (g .fields1)
     (holds (g .fields2)

@@ -4,7 +4,7 @@ use mathlib.Core.Path.{_≡_}
 use mathlib.Core.List.{List, [], _∷_, _++_}
 use lib.ListN.{length, drop}
 use lib.Dec.{leb, eqb}
-use Rattle.rules.specs.Rules.{Row, row, tables, judge, Ruling, fine, paper, after, placeless}
+use Rattle.rules.specs.Rules.{Row, row, tables, unplaced, judge, Ruling, fine, paper, after}
 use Rattle.rules.specs.declared.Verdict.{Verdict}
 use Rattle.header.specs.declared.Header.{Header}
 use Rattle.header.specs.Places.{headerLength}
@@ -31,10 +31,10 @@ lengths10 c p = row (leb c 65535) 4 10 0 ∷ row (eqb p c) 4 10 0 ∷ []
 unfoldable pub room : ℕ → ℕ → ℕ → ℕ → List Row
 room a b c n = row (leb (headerLength a b c) n) 17 0 0 ∷ []
 
--- every check of the writer, for values, entries and n bytes of output
+-- every check of the writer, for values, entries and n bytes of output: these come from no file
 unfoldable pub given : Header → Entries → ℕ → List Row
 given v e n =
-    tables (
+    unplaced (tables (
     orders (v .block1 .order)
     ∷ fields1 (v .block1)
     ∷ fields2 (v .block2)
@@ -46,11 +46,11 @@ given v e n =
     ∷ names (v .block1) (v .block5) (v .block7)
     ∷ room (length (e .lines8)) (length (e .lines9)) (length (e .lines10)) n
     ∷ []
-    )
+    ))
 
--- the writer's ruling: values come from no file, so that its refusals have no place in one
+-- the writer's ruling
 abbrev pub ruled : Header → Entries → ℕ → Ruling
-ruled v e n = placeless (judge fine (given v e n))
+ruled v e n = judge fine (given v e n)
 
 -- l was lent, the verdict is r, and out stands there afterwards: the header and then the rest as it was, or all as it was
 pub record Wrote (l : List ℕ) (v : Header) (e : Entries) (r : Verdict) (out : List ℕ) : Type 0 where

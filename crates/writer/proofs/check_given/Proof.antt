@@ -1,14 +1,14 @@
 -- `check_given`: its tables, one after the other.
-use mathlib.Core.Path.{ap, _∙_}
-use Rattle.rules.specs.Rules.{paper, placeless}
-use Rattle.rules.proofs.Judge.{tried, table, last}
+use mathlib.Core.Path.{ap, sym, _∙_}
+use Rattle.rules.specs.Rules.{paper, fine, placeless}
+use Rattle.rules.proofs.Judge.{tried, table, last, judge-unplaced}
 use Rattle.writer.specs.Given.{given}
 use borrow.Author.Needs.{needs}
 use Rattle.writer.proofs.check_given.Statement.{statement}
 use Rattle.writer.proofs.check_given.Tie as tie
 
 returns : tie.Need-returns
-unfolding paper given
+unfolding paper given placeless
 returns c =
     let c10 = c .before in
     let c9 = c10 .before in
@@ -32,6 +32,7 @@ returns c =
     (table (c8 .check-lengths10 .ensures)
     (table (c9 .check-name .ensures)
     (table (c10 .check-room .ensures) last)))))))))))
+    ∙ sym (judge-unplaced fine _)
 
 pub check-given-spec : {M : Type 1} → statement M
 check-given-spec =
