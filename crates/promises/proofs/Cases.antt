@@ -10,8 +10,8 @@ use lib.Ieee.{Float, add, mul, ofInt}
 use lib.ListN.{length, getD}
 use Rattle.wire.specs.Wire.{span, eqs}
 use Rattle.wire.proofs.Pieces.{span-span}
-use Rattle.rules.specs.Rules.{Turned, turned, fine, refused, judge, First, here, tables, checked, Reply, refuses, reply}
-use Rattle.rules.proofs.Judge.{exactly, each-is, holds, first-fails, first-table}
+use Rattle.rules.specs.Rules.{Turned, turned, fine, refused, judge, First, here, tables, placeless, checked, Reply, refuses, reply}
+use Rattle.rules.proofs.Judge.{exactly, each-is, holds, first-fails, first-table, judge-unplaced}
 use Rattle.calendar.specs.Dates.{dayOf}
 use Rattle.calendar.specs.Shots.{slotAt, shot, shots, slotOf, filmFrameOf}
 use Rattle.reading.specs.declared.Reading.{Reading}
@@ -32,17 +32,17 @@ use Rattle.tiling.specs.Lawful.{text}
 use Rattle.promises.specs.Cases.{Holds, header, count, date, name, slot, film, unwritten8, before8, others, All, table}
 
 -- 6,548 entries of block 8
-too-many : Holds (unwritten8 6548 (turned 4 8))
-unfolding given lengths8
+too-many : Holds (unwritten8 6548 (turned 4 8 0))
+unfolding given lengths8 placeless
 too-many v e n long = (
   λ q. let few = good-is v e n q .0 .fits .few8 in absurd (omega arith),
   λ q.
       let h = each-is (before8 v) (exactly (tables (before8 v)) .0 q) in
-      first-fails (given v e n) (turned 4 8) .1 (first-table (before8 v) _ _ h (here (ap (λ (a : ℕ). leb a 6547) long))),
+      judge-unplaced fine _ ∙ ap placeless (first-fails _ (turned 4 8 0) .1 (first-table (before8 v) _ _ h (here (ap (λ (a : ℕ). leb a 6547) long)))),
 )
 
 -- a name that bears 20230229
-no-date : (n : List ℕ) → span n 7 8 ≡ text "20230229" → dateOf n ≡ refuses (turned 10 1)
+no-date : (n : List ℕ) → span n 7 8 ≡ text "20230229" → dateOf n ≡ refuses (turned 10 1 0)
 unfolding dateOf dayOf span
 no-date n e =
     let at : (k : ℕ) → getD (span n 7 8) k 0 ≡ getD (text "20230229") k 0 = λ k. ap (λ (l : List ℕ). getD l k 0) e in
@@ -52,22 +52,22 @@ fails : (a b : Bool) → b ≡ false → (a && b) ≡ false
 fails true b e = e
 fails false b e = refl
 
-no-name : (v : Block1) (w : Block5) (x : Block7) → isDay (dateOf (v .name)) ≡ false → First (names v w x) (turned 10 1)
+no-name : (v : Block1) (w : Block5) (x : Block7) → isDay (dateOf (v .name)) ≡ false → First (names v w x) (turned 10 1 114)
 unfolding names goodName
 no-name v w x e =
     here (fails (eqs (v .name) (nameFor (satelliteOf (v .satellite)) (span (v .name) 7 8) (v .timeline) (w .band) (v .area) (x .number) (x .total))) (isDay (dateOf (v .name))) e)
 
-february : Holds (name (text "20230229") (turned 10 1))
+february : Holds (name (text "20230229") (turned 10 1 114))
 unfolding answerOf reply checks whole block1Of
 february s q e =
     let o = orderOf s in
     let h = each-is (others s) (exactly (tables (others s)) .0 q) in
     let d : isDay (dateOf (block1Of s o .name)) ≡ false = ap isDay (no-date (span s 114 128) (span-span s 114 128 7 8 (omega arith) ∙ e)) in
     let counts = dataLength (block2Of s o .columns) (block2Of s o .lines) in
-    let f : First (whole s o (lengthOf s) counts) (turned 10 1) =
+    let f : First (whole s o (lengthOf s) counts) (turned 10 1 114) =
     first-table (sums s o (lengthOf s) counts ∷ []) (names (block1Of s o) (block5Of s o) (block7Of s o)) (ends s (lengthOf s) counts ∷ []) (holds (h .1 .1 .1 .0) tt) (no-name (block1Of s o) (block5Of s o) (block7Of s o) d) in
-    let r : judge fine (checks s) ≡ refused (turned 10 1) =
-    first-fails (checks s) (turned 10 1) .1
+    let r : judge fine (checks s) ≡ refused (turned 10 1 114) =
+    first-fails (checks s) (turned 10 1 114) .1
     (first-table (blocks1to4 s o ∷ blocks5to7 s o ∷ blocks8to11 s o (aOf s) (bOf s) (cOf s) ∷ []) (whole s o (lengthOf s) counts) [] (holds (h .0) (holds (h .1 .0) (holds (h .1 .1 .0) tt))) f) in
     rw r
 

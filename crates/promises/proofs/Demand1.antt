@@ -1,5 +1,5 @@
--- Demand 1: a refusal carries a number of the paper's table with a block that the table has for it, and every lent byte, count, mark and
--- number stays as it was. Each theorem is of a function's own answers: `Post` is its contract as the source has it.
+-- Demand 1: a refusal carries a number of the paper's table with a block that the table has for it (with block 0 the offset 0; Offsets says the others), and every lent
+-- byte, count, mark and number stays as it was. Each theorem is of a function's own answers: `Post` is its contract as the source has it.
 -- That every input has one answer is the contracts' having no `requires`, and OneAnswer.
 -- Assumes nothing.
 use mathlib.Core.Path.{_≡_, refl, sym, ap, _∙_}
@@ -10,7 +10,7 @@ use native.Mathlib.Omega.{arith}
 use lib.ListN.{length, getD}
 use lib.IntN.{pos}
 use denote.Ref.{now}
-use Rattle.rules.specs.Rules.{Turned, turned, Row, fine, says, refused, refuses, judge, tables, paper}
+use Rattle.rules.specs.Rules.{Turned, turned, Row, fine, says, refused, refuses, judge, tables, unplaced, paper}
 use Rattle.calendar.specs.Dates.{real, dayAt, paperDay, dayOf}
 use Rattle.calendar.specs.Shots.{shot, paperSlot, slotOf, shots, paperFrame, filmFrameOf}
 use Rattle.format.specs.Texts.{pair}
@@ -84,7 +84,7 @@ unfolding inTable allowed tables ready slated placing offering
 in-offering s marks size f = in-append (checks f) _ (in-checks f) refl
 
 in-given : (v : _) (e : _) (n : ℕ) → inTable (given v e n) ≡ true
-unfolding inTable allowed tables orders fields1 fields2 fields5 fields7 lengths8 lengths9 lengths10 names room given
+unfolding inTable allowed tables unplaced orders fields1 fields2 fields5 fields7 lengths8 lengths9 lengths10 names room given
 in-given v e n = refl
 
 in-rooms : (s : List ℕ) (rs : List Row) → inTable rs ≡ true → inTable (tables (checks s ∷ rs ∷ [])) ≡ true
@@ -158,10 +158,10 @@ of-date κ a r t p u e =
     let year = two 7 * 100 + two 9 in
     told (digits8 (a .0)) (real year (two 11) (two 13)) (dayAt year (two 11) (two 13)) (sym p ∙ e)
   where
-    told : (b c : Bool) (n : ℕ) → cond b (cond c (says n) (refuses (turned 10 1))) (refuses (turned 10 1)) ≡ refuses u → allowed u ≡ true
+    told : (b c : Bool) (n : ℕ) → cond b (cond c (says n) (refuses (turned 10 1 0))) (refuses (turned 10 1 0)) ≡ refuses u → allowed u ≡ true
     told true true n e = absurd (let z : _≡_ {A = ℕ} 0 1 = cc in omega arith)
-    told true false n e = let q : turned 10 1 ≡ u = cc in rw (← q)
-    told false c n e = let q : turned 10 1 ≡ u = cc in rw (← q)
+    told true false n e = let q : turned 10 1 0 ≡ u = cc in rw (← q)
+    told false c n e = let q : turned 10 1 0 ≡ u = cc in rw (← q)
 
 pub of-slot : (κ : _) (a : _) (r : _) (t : _) → slot.Post κ a r t → (u : Turned) → paperSlot r ≡ refuses u → allowed u ≡ true
 unfolding slotOf shot inTable allowed
@@ -225,14 +225,14 @@ of-seal κ a r t p u e =
     let q = sym (p .0) ∙ e in
     (refused-in (writing _ _ _ _) (in-writing _ _ _ _) u q, p .1 ∙ left _ u _ _ q)
 
-pub of-hsd-reel-open : (κ : _) (a : _) (r : _) (t : _) → hsd-reel-open.Post κ a r t → (allowedC (r .refusal) (r .block) ≡ true) × ((r .refusal ≡ 0 → ⊥) → r .files ≡ 0)
+pub of-hsd-reel-open : (κ : _) (a : _) (r : _) (t : _) → hsd-reel-open.Post κ a r t → (allowedC (r .refusal) (r .block) (r .offset) ≡ true) × ((r .refusal ≡ 0 → ⊥) → r .files ≡ 0)
 unfolding opened
 of-hsd-reel-open κ a r t p =
     let s = now (a .0) in
     rw p (reel-allowed (reels.opening s) (in-reel s) _ _ refl, no-files (judge fine (reels.opening s)) _)
 
 pub of-hsd-reel-write : (κ : _) (a : _) (r : _) (t : _) → hsd-reel-write.Post κ a r t
-    → (allowedC (r .refusal) (r .block) ≡ true) × ((r .refusal ≡ 0 → ⊥) → now (t .1 .1 .0) ≡ now (a .1 .1 .0))
+    → (allowedC (r .refusal) (r .block) (r .offset) ≡ true) × ((r .refusal ≡ 0 → ⊥) → now (t .1 .1 .0) ≡ now (a .1 .1 .0))
 unfolding written
 of-hsd-reel-write κ a r t p = (
   rw (p .0) (shown-allowed (writing _ _ _ _) (in-writing _ _ _ _) _ refl),
@@ -240,7 +240,7 @@ of-hsd-reel-write κ a r t p = (
 )
 
 pub of-hsd-reel-seal : (κ : _) (a : _) (r : _) (t : _) → hsd-reel-seal.Post κ a r t
-    → (allowedC (r .refusal) (r .block) ≡ true) × ((r .refusal ≡ 0 → ⊥) → now (t .1 .1 .0) ≡ now (a .1 .1 .0))
+    → (allowedC (r .refusal) (r .block) (r .offset) ≡ true) × ((r .refusal ≡ 0 → ⊥) → now (t .1 .1 .0) ≡ now (a .1 .1 .0))
 unfolding written
 of-hsd-reel-seal κ a r t p = (
   rw (p .0) (shown-allowed (writing _ _ _ _) (in-writing _ _ _ _) _ refl),
@@ -253,7 +253,7 @@ pub of-write : (κ : _) (a : _) (r : _) (t : _) → write.Post κ a r t → (u :
     → (allowed u ≡ true) × (now (t .0) ≡ now (a .0))
 of-write κ a r t p u e =
     let q = sym (p .says) ∙ e in
-    (placeless-in (given _ _ _) (in-given _ _ _) u q, p .leaves ∙ left _ u _ _ q)
+    (refused-in (given _ _ _) (in-given _ _ _) u q, p .leaves ∙ left _ u _ _ q)
 
 -- the values of a refused file are those of no bytes
 pub of-read : (κ : _) (a : _) (r : _) (t : _) → read.Post κ a r t → (u : Turned) → paper (r .verdict) ≡ refused u
@@ -295,19 +295,19 @@ pub in-lent : (ok : Bool) (rs : List Row) → inTable rs ≡ true → inTable (t
 unfolding lent tables inTable allowed
 in-lent ok rs h = in-append rs [] h refl
 
-pub of-hsd-accept : (κ : _) (a : _) (r : _) (t : _) → hsd-accept.Post κ a r t → (allowedC (r .refusal) (r .block) ≡ true) × ((r .refusal ≡ 0 → ⊥) → Bare r)
+pub of-hsd-accept : (κ : _) (a : _) (r : _) (t : _) → hsd-accept.Post κ a r t → (allowedC (r .refusal) (r .block) (r .offset) ≡ true) × ((r .refusal ≡ 0 → ⊥) → Bare r)
 unfolding answerOf
 of-hsd-accept κ a r t p =
     rw p (file-allowed (checks (now (a .0))) (in-checks (now (a .0))) _ (factsOf (now (a .0))) refl, bare (judge fine (checks (now (a .0)))) (factsOf (now (a .0))))
 
-pub of-hsd-frame-number : (κ : _) (a : _) (r : _) (t : _) → hsd-frame-number.Post κ a r t → (allowedC (r .refusal) (r .block) ≡ true) × ((r .refusal ≡ 0 → ⊥) → r .number ≡ pos 0)
+pub of-hsd-frame-number : (κ : _) (a : _) (r : _) (t : _) → hsd-frame-number.Post κ a r t → (allowedC (r .refusal) (r .block) (r .offset) ≡ true) × ((r .refusal ≡ 0 → ⊥) → r .number ≡ pos 0)
 unfolding filmFrameOf shots inTable allowed
 of-hsd-frame-number κ a r t p =
     let rows = shots (a .0) (a .1 .0) (a .1 .1 .0) (a .1 .1 .1 .0) in
     rw p (number-allowed rows refl _ _ refl, no-number (judge fine rows) _)
 
 pub of-hsd-open : (κ : _) (a : _) (r : _) (t : _) → hsd-open.Post κ a r t
-    → (allowedC (r .refusal) (r .block) ≡ true) × ((r .refusal ≡ 0 → ⊥) → (now (t .1 .0) ≡ now (a .1 .0)) × (now (t .1 .1 .0) ≡ now (a .1 .1 .0)))
+    → (allowedC (r .refusal) (r .block) (r .offset) ≡ true) × ((r .refusal ≡ 0 → ⊥) → (now (t .1 .0) ≡ now (a .1 .0)) × (now (t .1 .1 .0) ≡ now (a .1 .1 .0)))
 unfolding openMarks openStrip
 of-hsd-open κ a r t p =
     let m = now (a .1 .0) in

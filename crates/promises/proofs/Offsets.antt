@@ -1,101 +1,254 @@
--- Every refusal of a file carries the offset of the field that it concerns.
+-- Every refusal of a file says which of its fields is the first at fault, and where that field stands: of every function that refuses, and of C's.
 -- Assumes nothing.
-use mathlib.Core.Path.{_≡_, refl, sym, _∙_}
-use mathlib.Core.Bool.{true, false}
+use mathlib.Core.Path.{_≡_, refl, sym, ap, _∙_}
+use mathlib.Core.Bool.{Bool, true, false, _&&_, and-eq-true-iff}
 use mathlib.Core.List.{List, [], _∷_, _++_}
+use mathlib.Core.Logic.{_↔_}
 use Prim.Native.Nat.{ℕ}
 use native.Mathlib.Omega.{arith}
+use lib.ListN.{length}
+use lib.Dec.{eqb}
+use lib.IntN.{ℤ}
+use borrow.Author.Tests.{eqb-true}
 use denote.Ref.{now}
-use Rattle.rules.specs.Rules.{Turned, Row, test, fine, refused, judge, checked, refuses, tables}
-use Rattle.rules.proofs.Judge.{judge-refused, turned-away, holds}
-use Rattle.header.specs.Places.{at9, at10, at11, aOf, bOf, cOf, length8, length9, length10}
+use Rattle.rules.specs.Rules.{Turned, turned, Row, test, Ruling, fine, refused, judge, checked, First, here, later, tables, unplaced, paper, Reply, says, refuses, reply}
+use Rattle.rules.proofs.Judge.{first-fails, turned-away, exactly}
+use Rattle.calendar.specs.Shots.{shots, filmFrameOf}
+use Rattle.header.specs.Places.{orderOf}
+use Rattle.header.specs.Values.{block1Of, block2Of, block5Of, block7Of}
 use Rattle.accept.specs.Checks.{shape, entries, shape1, fields1, fixed2, fields2, fixed5, fields5, fields7, sums, names, ends, blocks1to4, blocks5to7, blocks8to11, whole, checks}
+use Rattle.accept.specs.declared.Facts.{Facts}
 use Rattle.accept.specs.Answers.{factsOf, paperAnswer, answerOf}
+use Rattle.slate.specs.Slates.{slated}
+use Rattle.frame.specs.Frames.{ready, placing, offering}
+use Rattle.reader.specs.Reads.{rooms2, rooms3}
+use Rattle.writer.specs.Given.{given}
+use Rattle.reel.specs.Reels.{File, Good, filed, partsOf, paperOpened, opened}
+use Rattle.reel.specs.Reels as reels
+use Rattle.reel.specs.Writing.{writing, listed}
+use Rattle.plugin.specs.Plugin.{shownRuling, shownFile, shownFrame}
+use Rattle.plugin_frames.specs.Strips.{slateIn, goodMarks, lent, marksIn, offeredC}
+use Rattle.plugin_reels.specs.Reels.{shownReel}
+use Rattle.accept.proofs.verdict.Reads as verdict
 use Rattle.accept.proofs.accept.Reads as accept
-use Rattle.promises.specs.Fields.{blockAt, Placed, here, there}
+use Rattle.reader.proofs.read.Reads as read
+use Rattle.reader.proofs.read_shifts.Reads as read-shifts
+use Rattle.reader.proofs.read_times.Reads as read-times
+use Rattle.reader.proofs.read_errors.Reads as read-errors
+use Rattle.frame.proofs.offer.Reads as offer
+use Rattle.writer.proofs.write.Reads as write
+use Rattle.reel.proofs.open.Reads as open-reel
+use Rattle.reel.proofs.write.Reads as write-reel
+use Rattle.reel.proofs.seal.Reads as seal
+use Rattle.plugin.proofs.hsd_accept.Reads as hsd-accept
+use Rattle.plugin.proofs.hsd_frame_number.Reads as hsd-frame-number
+use Rattle.plugin_frames.proofs.hsd_offer.Reads as hsd-offer
+use Rattle.plugin_reels.proofs.hsd_reel_open.Reads as hsd-reel-open
+use Rattle.plugin_reels.proofs.hsd_reel_write.Reads as hsd-reel-write
+use Rattle.plugin_reels.proofs.hsd_reel_seal.Reads as hsd-reel-seal
+use Rattle.promises.specs.Blocks.{allowed}
+use Rattle.promises.specs.Fields.{fields, Concerns, none, one, offsetOf}
+use Rattle.promises.specs.Reels.{Laid, Handed}
+use Rattle.promises.proofs.First as first
+use Rattle.promises.proofs.Reeled.{laid-has, handed-listed}
 
-same-turned : (t u : Turned) → refused t ≡ refused u → t ≡ u
-same-turned t u e = cc
+-- the checks are these fields' tests
+fields-are : (s : List ℕ) → checks s ≡ fields s
+unfolding tables shape entries shape1 fields1 fixed2 fields2 fixed5 fields5 fields7 sums names ends blocks1to4 blocks5to7 blocks8to11 whole checks block1Of block2Of block5Of block7Of
+fields-are s = refl
 
--- every row's offset is that of its field
-abbrev All : List ℕ → List Row → Type 0
-All s [] = Unit
-All s (test ok t ∷ rs) = Placed s t × All s rs
+-- 7 is no refusal any more
+pub no-seven : (b p : ℕ) → allowed (turned 7 b p) ≡ false
+unfolding allowed
+no-seven b p = refl
 
-both : (s : List ℕ) (xs ys : List Row) → All s xs → All s ys → All s (xs ++ ys)
-both s [] ys h k = k
-both s (test ok t ∷ xs) ys h k = (h .0, both s xs ys (h .1) k)
+-- ---- files
 
--- of tables one after the other
-abbrev Every : List ℕ → List (List Row) → Type 0
-Every s [] = Unit
-Every s (t ∷ ts) = All s t × Every s ts
+pub of-verdict : (κ : _) (a : _) (r : _) (t : _) → verdict.Post κ a r t → (u : Turned) → (paper r ≡ refused u) ↔ First (fields (now (a .0))) u
+of-verdict κ a r t p u = rw (← fields-are (now (a .0))) (first.of-verdict κ a r t p u)
 
-every : (s : List ℕ) (ts : List (List Row)) → Every s ts → All s (tables ts)
-unfolding tables
-every s [] h = tt
-every s (t ∷ ts) h = both s t (tables ts) (h .0) (every s ts (h .1))
+pub of-accept : (κ : _) (a : _) (r : _) (t : _) → accept.Post κ a r t → (u : Turned) → (paperAnswer r ≡ refuses u) ↔ First (fields (now (a .0))) u
+of-accept κ a r t p u = rw (← fields-are (now (a .0))) (first.of-accept κ a r t p u)
 
-placed-in : (s : List ℕ) (rs : List Row) → All s rs → (t : Turned) → judge fine rs ≡ refused t → Placed s t
+pub of-read : (κ : _) (a : _) (r : _) (t : _) → read.Post κ a r t → (u : Turned) → (paper (r .verdict) ≡ refused u) ↔ First (fields (now (a .0))) u
+of-read κ a r t p u = rw (← fields-are (now (a .0))) (first.of-read κ a r t p u)
+
+-- ---- among other checks
+
+-- the first row that fails stands in the first table, or every test of that one holds
+data Either (xs ys : List Row) (u : Turned) : Type 0 where
+  within : First xs u → Either xs ys u
+  beyond : judge fine xs ≡ fine → First ys u → Either xs ys u
+
+split : (xs : List Row) {ys : List Row} {u : Turned} → First (xs ++ ys) u → Either xs ys u
 unfolding checked
-placed-in s [] h t e = absurd (let z : _≡_ {A = ℕ} 0 1 = cc in omega arith)
-placed-in s (test true u ∷ rs) h t e = placed-in s rs (h .1) t e
-placed-in s (test false u ∷ rs) h t e = let q : u ≡ t = same-turned u t (sym (judge-refused u rs) ∙ e) in rw (← q) (h .0)
+split [] f = beyond refl f
+split (test ok t ∷ xs) (here e) = within (here e)
+split (test ok t ∷ xs) (later e f) = go e (split xs f)
+  where
+    go : {ys : List Row} {u : Turned} → ok ≡ true → Either xs ys u → Either (test ok t ∷ xs) ys u
+    go e (within g) = within (later e g)
+    go e (beyond h g) = beyond (rw e h) g
 
-in-shape : (s : List ℕ) (o k at n : ℕ) → at ≡ blockAt s k → All s (shape s o k at n)
-unfolding shape
-in-shape s o k at n e = holds (here (omega (arith, e))) (holds (here (omega (arith, e))) (holds (here (omega (arith, e))) tt))
+nothing : {u : Turned} → First [] u → ⊥
+nothing {u} f = let e : fine ≡ refused u = first-fails [] u .1 f in let z : _≡_ {A = ℕ} 0 1 = cc in omega arith
 
-in-entries : (s : List ℕ) (k at stated least full : ℕ) → at ≡ blockAt s k → All s (entries s k at stated least full)
-unfolding entries
-in-entries s k at stated least full e = holds (here (omega (arith, e))) (holds (here (omega (arith, e))) (holds (here (omega (arith, e))) (holds (here (omega (arith, e))) tt)))
+-- no row of a table concerns a file
+abbrev nowhere : List Row → Bool
+nowhere [] = true
+nowhere (test ok (turned n b p) ∷ rs) = (eqb b 0 && eqb p 0) && nowhere rs
 
-in-front : (s : List ℕ) (o : ℕ) → All s (blocks1to4 s o)
-unfolding blocks1to4 shape1 fields1 fixed2 fields2
-in-front s o =
-    every s _
-    (holds (holds (here refl) (holds (here refl) (holds (here refl) (holds (here refl) (holds (here refl) tt)))))
-    (holds (holds (here refl) (holds (here refl) (holds (here refl) tt)))
-    (holds (in-shape s o 2 282 50 refl)
-    (holds (holds (here refl) tt)
-    (holds (holds (here refl) (holds (here refl) (holds (there (here refl)) (holds (here refl) tt))))
-    (holds (in-shape s o 3 332 127 refl)
-    (holds (in-shape s o 4 459 139 refl) tt)))))))
+zeros : {rs : List Row} {n b p : ℕ} → nowhere rs ≡ true → First rs (turned n b p) → (b ≡ 0) × (p ≡ 0)
+zeros {n = n} {b = b} {p = p} h (here {rs = rs} e) =
+    let k = and-eq-true-iff (eqb b 0) (eqb p 0) .0 (and-eq-true-iff (eqb b 0 && eqb p 0) (nowhere rs) .0 h .0) in
+    (eqb-true b 0 (k .0), eqb-true p 0 (k .1))
+zeros h (later {t = turned m c q} {rs = rs} e f) = zeros (and-eq-true-iff (eqb c 0 && eqb q 0) (nowhere rs) .0 h .1) f
 
-in-middle : (s : List ℕ) (o : ℕ) → All s (blocks5to7 s o)
-unfolding blocks5to7 fixed5 fields5 fields7
-in-middle s o =
-    every s _
-    (holds (in-shape s o 5 598 147 refl)
-    (holds (holds (here refl) (holds (there (here refl)) tt))
-    (holds (holds (here refl) (holds (here refl) tt))
-    (holds (in-shape s o 6 745 259 refl)
-    (holds (in-shape s o 7 1004 47 refl)
-    (holds (holds (here refl) (holds (there (here refl)) (holds (there (there (here refl))) tt))) tt))))))
+none-of : (fs : List File) (rs : List Row) (u : Turned) → nowhere rs ≡ true → First rs u → Concerns fs u
+none-of fs rs (turned n b p) h f = let z = zeros h f in rw (z .0, z .1) none
 
-in-lists : (s : List ℕ) (o : ℕ) → All s (blocks8to11 s o (aOf s) (bOf s) (cOf s))
-unfolding blocks8to11
-in-lists s o =
-    every s _
-    (holds (in-entries s 8 1051 _ 61 (length8 (aOf s)) refl)
-    (holds (in-entries s 9 (at9 (aOf s)) _ 45 (length9 (bOf s)) refl)
-    (holds (in-entries s 10 (at10 (aOf s) (bOf s)) _ 47 (length10 (cOf s)) refl)
-    (holds (in-shape s o 11 (at11 (aOf s) (bOf s) (cOf s)) 259 refl) tt))))
+-- a file's own checks, among others that concern none
+alone : (f : File) (u : Turned) → First (checks f) u → Concerns (f ∷ []) u
+alone f u h = one [] [] f {u = u} refl tt (rw (← fields-are f) h)
 
-in-checks : (s : List ℕ) → All s (checks s)
-unfolding checks whole sums names ends
-in-checks s =
-    every s _
-    (holds (in-front s _)
-    (holds (in-middle s _)
-    (holds (in-lists s _)
-    (holds (every s _
-    (holds (holds (here refl) (holds (here refl) tt))
-    (holds (holds (here refl) tt)
-    (holds (holds (here (omega arith)) (holds (here (omega arith)) tt)) tt)))) tt))))
+around : (f : File) (xs zs : List Row) (u : Turned) → nowhere xs ≡ true → nowhere zs ≡ true → First (xs ++ (checks f ++ zs)) u → Concerns (f ∷ []) u
+around f xs zs u hx hz h = outer (split xs h)
+  where
+    inner : Either (checks f) zs u → Concerns (f ∷ []) u
+    inner (within g) = alone f u g
+    inner (beyond e g) = none-of (f ∷ []) zs u hz g
+    outer : Either xs (checks f ++ zs) u → Concerns (f ∷ []) u
+    outer (within g) = none-of (f ∷ []) xs u hx g
+    outer (beyond e g) = inner (split (checks f) g)
 
-pub of-accept : (κ : _) (a : _) (r : _) (t : _) → accept.Post κ a r t → (u : Turned) → paperAnswer r ≡ refuses u → Placed (now (a .0)) u
+pub of-shifts : (κ : _) (a : _) (r : _) (t : _) → read-shifts.Post κ a r t → (u : Turned) → paper r ≡ refused u → Concerns (now (a .0) ∷ []) u
+unfolding tables rooms3
+of-shifts κ a r t p u e = around (now (a .0)) [] _ u refl refl (first.of-shifts κ a r t p u .0 e)
+
+pub of-times : (κ : _) (a : _) (r : _) (t : _) → read-times.Post κ a r t → (u : Turned) → paper r ≡ refused u → Concerns (now (a .0) ∷ []) u
+unfolding tables rooms2
+of-times κ a r t p u e = around (now (a .0)) [] _ u refl refl (first.of-times κ a r t p u .0 e)
+
+pub of-errors : (κ : _) (a : _) (r : _) (t : _) → read-errors.Post κ a r t → (u : Turned) → paper r ≡ refused u → Concerns (now (a .0) ∷ []) u
+unfolding tables rooms2
+of-errors κ a r t p u e = around (now (a .0)) [] _ u refl refl (first.of-errors κ a r t p u .0 e)
+
+offered-for : (s : _) (marks : _) (size : ℕ) (f : File) (u : Turned) → First (offering s marks size f) u → Concerns (f ∷ []) u
+unfolding offering tables ready slated placing
+offered-for s marks size f u h = around f (ready s marks size) _ u refl refl h
+
+pub of-offer : (κ : _) (a : _) (r : _) (t : _) → offer.Post κ a r t → (u : Turned) → paper (r .verdict) ≡ refused u → Concerns (now (a .1 .1 .1 .0) ∷ []) u
+of-offer κ a r t p u e = offered-for (a .0) (a .1 .0 .marks) (length (now (a .1 .1 .0))) (now (a .1 .1 .1 .0)) u (first.of-offer κ a r t p u .0 e)
+
+-- ---- reels: the parts, one after the other
+
+next-one : (f : File) {fs : List File} {u : Turned} → judge fine (checks f) ≡ fine → Concerns fs u → Concerns (f ∷ fs) u
+next-one f h none = none
+next-one f h (one before after g {u = u} e k w) = one (f ∷ before) after g {u = u} (ap (λ (l : List File). f ∷ l) e) (h, k) w
+
+any-of : (fs : List File) (u : Turned) → First (filed fs) u → Concerns fs u
+unfolding filed tables
+any-of [] u f = absurd (nothing f)
+any-of (f ∷ fs) u h = go (split (checks f) h) (any-of fs u)
+  where
+    go : Either (checks f) (filed fs) u → (First (filed fs) u → Concerns fs u) → Concerns (f ∷ fs) u
+    go (within g) r = one [] fs f {u = u} refl tt (rw (← fields-are f) g)
+    go (beyond e g) r = next-one f e (r g)
+
+-- the parts, among rows that concern none
+parts-of : (fs : List File) (xs zs : List Row) (u : Turned) → nowhere xs ≡ true → nowhere zs ≡ true → First (xs ++ (filed fs ++ zs)) u → Concerns fs u
+parts-of fs xs zs u hx hz h = outer (split xs h)
+  where
+    inner : Either (filed fs) zs u → Concerns fs u
+    inner (within g) = any-of fs u g
+    inner (beyond e g) = none-of fs zs u hz g
+    outer : Either xs (filed fs ++ zs) u → Concerns fs u
+    outer (within g) = none-of fs xs u hx g
+    outer (beyond e g) = inner (split (filed fs) g)
+
+opened-of : (s : List ℕ) (u : Turned) → judge fine (reels.opening s) ≡ refused u → Concerns (partsOf s) u
+unfolding reels.opening tables
+opened-of s u e = parts-of (partsOf s) (_ ∷ []) [] u refl refl (first-fails (reels.opening s) u .0 e)
+
+wrote-of : (s ls : List ℕ) (need room : ℕ) (u : Turned) → judge fine (writing s ls need room) ≡ refused u → Concerns (listed s ls) u
+unfolding writing tables
+wrote-of s ls need room u e = parts-of (listed s ls) (_ ∷ []) (_ ∷ []) u refl refl (first-fails (writing s ls need room) u .0 e)
+
+pub of-open-reel : (κ : _) (a : _) (r : _) (t : _) → open-reel.Post κ a r t → {ps : List File} → Laid (now (a .0)) ps → (u : Turned) → paperOpened r ≡ refuses u → Concerns ps u
+unfolding opened
+of-open-reel κ a r t p l u e = rw (← laid-has l .parts) (opened-of (now (a .0)) u (turned-away (judge fine (reels.opening (now (a .0)))) _ u (sym p ∙ e)))
+
+pub of-write-reel : (κ : _) (a : _) (r : _) (t : _) → write-reel.Post κ a r t → {fs : List File} → Handed (now (a .0)) (now (a .1 .0)) fs → (u : Turned) → paper r ≡ refused u → Concerns fs u
+of-write-reel κ a r t p h u e = rw (← handed-listed h) (wrote-of _ _ _ _ u (sym (p .0) ∙ e))
+
+pub of-seal : (κ : _) (a : _) (r : _) (t : _) → seal.Post κ a r t → {fs : List File} → Handed (now (a .0)) (now (a .1 .0)) fs → (u : Turned) → paper r ≡ refused u → Concerns fs u
+of-seal κ a r t p h u e = rw (← handed-listed h) (wrote-of _ _ _ _ u (sym (p .0) ∙ e))
+
+-- ---- values that come from no file
+
+first-unplaced : (rs : List Row) {u : Turned} → First (unplaced rs) u → offsetOf u ≡ 0
+unfolding unplaced
+first-unplaced [] f = absurd (nothing f)
+first-unplaced (test ok (turned n b p) ∷ rs) (here e) = refl
+first-unplaced (test ok (turned n b p) ∷ rs) (later e f) = first-unplaced rs f
+
+pub of-write : (κ : _) (a : _) (r : _) (t : _) → write.Post κ a r t → (u : Turned) → paper r ≡ refused u → offsetOf u ≡ 0
+unfolding given
+of-write κ a r t p u e = first-unplaced _ (first.of-write κ a r t p u .0 e)
+
+-- ---- from C: a refusal's three numbers
+
+shown-ruling : (v : Ruling) → (shownRuling v .refusal ≡ 0 → ⊥) → v ≡ refused (turned (shownRuling v .refusal) (shownRuling v .block) (shownRuling v .offset))
+unfolding shownRuling
+shown-ruling fine h = absurd (h refl)
+shown-ruling (refused (turned n b p)) h = refl
+
+shown-file : (v : Ruling) (x : Facts) → (shownFile (reply v x) .refusal ≡ 0 → ⊥)
+    → v ≡ refused (turned (shownFile (reply v x) .refusal) (shownFile (reply v x) .block) (shownFile (reply v x) .offset))
+unfolding shownFile reply
+shown-file fine x h = absurd (h refl)
+shown-file (refused (turned n b p)) x h = refl
+
+shown-reel : (v : Ruling) (x : ℕ) → (shownReel (reply v x) .refusal ≡ 0 → ⊥)
+    → v ≡ refused (turned (shownReel (reply v x) .refusal) (shownReel (reply v x) .block) (shownReel (reply v x) .offset))
+unfolding shownReel reply
+shown-reel fine x h = absurd (h refl)
+shown-reel (refused (turned n b p)) x h = refl
+
+shown-frame : (v : Ruling) (x : ℤ) → (shownFrame (reply v x) .refusal ≡ 0 → ⊥)
+    → v ≡ refused (turned (shownFrame (reply v x) .refusal) (shownFrame (reply v x) .block) (shownFrame (reply v x) .offset))
+unfolding shownFrame reply
+shown-frame fine x h = absurd (h refl)
+shown-frame (refused (turned n b p)) x h = refl
+
+pub of-hsd-accept : (κ : _) (a : _) (r : _) (t : _) → hsd-accept.Post κ a r t → (r .refusal ≡ 0 → ⊥) → First (fields (now (a .0))) (turned (r .refusal) (r .block) (r .offset))
 unfolding answerOf
-of-accept κ a r t p u e =
-    let s = now (a .0) in
-    placed-in s (checks s) (in-checks s) u (turned-away (judge fine (checks s)) (factsOf s) u (sym p ∙ e))
+of-hsd-accept κ a r t p = rw p (λ h. rw (← fields-are (now (a .0))) (first-fails (checks (now (a .0))) _ .0 (shown-file (judge fine (checks (now (a .0)))) (factsOf (now (a .0))) h)))
+
+lent-for : (ok : Bool) (s : _) (marks : _) (size : ℕ) (f : File) (u : Turned) → First (tables (lent ok ∷ offering s marks size f ∷ [])) u → Concerns (f ∷ []) u
+unfolding tables lent
+lent-for ok s marks size f u h = outer (split (lent ok) h)
+  where
+    inner : Either (offering s marks size f) [] u → Concerns (f ∷ []) u
+    inner (within g) = offered-for s marks size f u g
+    inner (beyond e g) = absurd (nothing g)
+    outer : Either (lent ok) (offering s marks size f ++ []) u → Concerns (f ∷ []) u
+    outer (within g) = none-of (f ∷ []) (lent ok) u refl g
+    outer (beyond e g) = inner (split (offering s marks size f) g)
+
+pub of-hsd-offer : (κ : _) (a : _) (r : _) (t : _) → hsd-offer.Post κ a r t → (r .refusal ≡ 0 → ⊥) → Concerns (now (a .1 .1 .1 .0) ∷ []) (turned (r .refusal) (r .block) (r .offset))
+of-hsd-offer κ a r t p = rw (p .0) (λ h. lent-for _ _ _ _ _ _ (first-fails _ _ .0 (shown-ruling (offeredC (a .0) (now (a .1 .0)) (length (now (a .1 .1 .0))) (now (a .1 .1 .1 .0))) h)))
+
+pub of-hsd-reel-open : (κ : _) (a : _) (r : _) (t : _) → hsd-reel-open.Post κ a r t → {ps : List File} → Laid (now (a .0)) ps → (r .refusal ≡ 0 → ⊥) → Concerns ps (turned (r .refusal) (r .block) (r .offset))
+unfolding opened
+of-hsd-reel-open κ a r t p l = rw (p, ← laid-has l .parts) (λ h. opened-of (now (a .0)) _ (shown-reel (judge fine (reels.opening (now (a .0)))) _ h))
+
+pub of-hsd-reel-write : (κ : _) (a : _) (r : _) (t : _) → hsd-reel-write.Post κ a r t → {fs : List File} → Handed (now (a .0)) (now (a .1 .0)) fs → (r .refusal ≡ 0 → ⊥) → Concerns fs (turned (r .refusal) (r .block) (r .offset))
+of-hsd-reel-write κ a r t p h = rw (p .0, ← handed-listed h) (λ z. wrote-of _ _ _ _ _ (shown-ruling _ z))
+
+pub of-hsd-reel-seal : (κ : _) (a : _) (r : _) (t : _) → hsd-reel-seal.Post κ a r t → {fs : List File} → Handed (now (a .0)) (now (a .1 .0)) fs → (r .refusal ≡ 0 → ⊥) → Concerns fs (turned (r .refusal) (r .block) (r .offset))
+of-hsd-reel-seal κ a r t p h = rw (p .0, ← handed-listed h) (λ z. wrote-of _ _ _ _ _ (shown-ruling _ z))
+
+pub of-hsd-frame-number : (κ : _) (a : _) (r : _) (t : _) → hsd-frame-number.Post κ a r t → (r .refusal ≡ 0 → ⊥) → (r .block ≡ 0) × (r .offset ≡ 0)
+unfolding filmFrameOf shots
+of-hsd-frame-number κ a r t p = rw p (λ h. zeros refl (first-fails (shots (a .0) (a .1 .0) (a .1 .1 .0) (a .1 .1 .1 .0)) _ .0 (shown-frame (judge fine (shots (a .0) (a .1 .0) (a .1 .1 .0) (a .1 .1 .1 .0))) _ h)))

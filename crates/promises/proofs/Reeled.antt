@@ -74,15 +74,15 @@ pub opened-bad : {s : List ℕ} (fs gs : List File) (f : File) (u : Turned) → 
 unfolding opened reply
 opened-bad {s} fs gs f u l g e = let h = laid-has l in rw (part-bad s fs gs f u (h .trailer) (h .parts) g e)
 
-unsound : (s : List ℕ) → sound s ≡ false → opened s ≡ refuses (turned 18 0)
+unsound : (s : List ℕ) → sound s ≡ false → opened s ≡ refuses (turned 18 0 0)
 unfolding opened reply opening
-unsound s e = rw (first-row (sound s) (turned 18 0) _ e)
+unsound s e = rw (first-row (sound s) (turned 18 0 0) _ e)
 
 -- a trailer of no parts at all is told first
-pub opened-broken : (s : List ℕ) → Bytes s → ((ps : List File) → Laid s ps → ⊥) → opened s ≡ refuses (turned 18 0)
+pub opened-broken : (s : List ℕ) → Bytes s → ((ps : List File) → Laid s ps → ⊥) → opened s ≡ refuses (turned 18 0 0)
 opened-broken s b none = go (sound s) refl
   where
-    go : (x : Bool) → sound s ≡ x → opened s ≡ refuses (turned 18 0)
+    go : (x : Bool) → sound s ≡ x → opened s ≡ refuses (turned 18 0 0)
     go false e = unsound s e
     go true e = absurd (none (partsOf s) (sound-laid s b e))
 
@@ -174,7 +174,7 @@ good-fits s ls e =
 module _ {s ls : List ℕ} (out bs : List ℕ) where
   wrote-own : (fs gs : List File) (f : File) (u : Turned) → Handed s ls (fs ++ (f ∷ gs)) → Fits (fs ++ (f ∷ gs)) → Good fs → Own f u → wrote s ls bs out ≡ refused u
   unfolding writing tables checked
-  wrote-own fs gs f u h t g e = rw (handed-good h t, handed-listed h) (judge-append fine (filed (fs ++ (f ∷ gs))) _ ∙ rw (first-bad fs gs f u g e) (judge-refused u (row (leb (length bs) (length out)) 17 0 ∷ [])))
+  wrote-own fs gs f u h t g e = rw (handed-good h t, handed-listed h) (judge-append fine (filed (fs ++ (f ∷ gs))) _ ∙ rw (first-bad fs gs f u g e) (judge-refused u (row (leb (length bs) (length out)) 17 0 0 ∷ [])))
 
   wrote-good : {fs : List File} → Handed s ls fs → Fits fs → Good fs → length bs ≤ length out → wrote s ls bs out ≡ fine
   unfolding writing
@@ -182,17 +182,17 @@ module _ {s ls : List ℕ} (out bs : List ℕ) where
       exactly (writing s ls (length bs) (length out)) .1
       (each-of _ (holds (holds (handed-good h f) tt) (holds (good-all (listed s ls) (rw (handed-listed h) g)) (holds (holds (le-leb (length bs) (length out) r) tt) tt))))
 
-  wrote-room : {fs : List File} → Handed s ls fs → Fits fs → Good fs → length out < length bs → wrote s ls bs out ≡ refused (turned 17 0)
+  wrote-room : {fs : List File} → Handed s ls fs → Fits fs → Good fs → length out < length bs → wrote s ls bs out ≡ refused (turned 17 0 0)
   unfolding writing tables checked
   wrote-room {fs} h t g r =
       rw (handed-good h t, handed-listed h) (judge-append fine (filed fs) _ ∙ rw (exactly (filed fs) .1 (good-all fs g), lt-leb (length bs) (length out) r))
 
-  wrote-reel : ((ps : List File) → Handed s ls ps → Fits ps → ⊥) → wrote s ls bs out ≡ refused (turned 18 0)
+  wrote-reel : ((ps : List File) → Handed s ls ps → Fits ps → ⊥) → wrote s ls bs out ≡ refused (turned 18 0 0)
   unfolding writing
   wrote-reel none = go (goodList s ls) refl
     where
-      go : (b : Bool) → goodList s ls ≡ b → wrote s ls bs out ≡ refused (turned 18 0)
-      go false e = first-row (goodList s ls) (turned 18 0) _ e
+      go : (b : Bool) → goodList s ls ≡ b → wrote s ls bs out ≡ refused (turned 18 0 0)
+      go false e = first-row (goodList s ls) (turned 18 0 0) _ e
       go true e = let g = good-fits s ls e in absurd (none (listed s ls) (g .0) (g .1))
 
   -- what is fine was a list that a reel can hold, of accepted files
@@ -240,8 +240,8 @@ writings Says bytes s ls out left v e x o =
           let w = wrote-good out bs h f g (rw q r) in
           (subst Says (e ∙ w) x, o ∙ written-is s ls bs out w ∙ ap (λ (l : List ℕ). l ++ drop (length l) out) q);
       own = λ fs gs f u h t g w. no u (wrote-own out bs fs gs f u h t g w);
-      room = λ fs h f g r. no (turned 17 0) (wrote-room out bs h f g (rw (ap bytes (handed-listed h)) r));
-      reel = λ none. no (turned 18 0) (wrote-reel out bs none);
+      room = λ fs h f g r. no (turned 17 0 0) (wrote-room out bs h f g (rw (ap bytes (handed-listed h)) r));
+      reel = λ none. no (turned 18 0 0) (wrote-reel out bs none);
     }
 
 -- the same of opening

@@ -65,7 +65,7 @@ opens-c κ a r t p = openings (λ x. r ≡ shownReel x) (now (a .0)) (opened (no
 shown-says : (x : Reply ℕ) → ((u : Turned) → x ≡ refuses u → allowed u ≡ true) → shownReel x .refusal ≡ 0 → x ≡ says (shownReel x .files)
 unfolding shownReel
 shown-says (says n) h e = refl
-shown-says (refuses (turned n b)) h e = absurd (none-fine n b (h (turned n b) refl) e)
+shown-says (refuses (turned n b p)) h e = absurd (none-fine n b p (h (turned n b p) refl) e)
 
 in-opened : (s : List ℕ) (u : Turned) → opened s ≡ refuses u → allowed u ≡ true
 unfolding opened
@@ -169,7 +169,7 @@ module _ {files lengths s : List ℕ} (w : Reel s (listed files lengths)) (fs : 
   unfolding paperOpened
   number-is κ a r t p e = paperOpened-one r (Files (length fs)) (p ∙ ap opened e ∙ opened-good back)
 
-  number-is-c : (κ : _) (a : _) (r : _) (t : _) → hsd-open.Post κ a r t → now (a .0) ≡ s → r ≡ record { refusal = 0; block = 0; files = length fs }
+  number-is-c : (κ : _) (a : _) (r : _) (t : _) → hsd-open.Post κ a r t → now (a .0) ≡ s → r ≡ record { refusal = 0; block = 0; files = length fs; offset = 0 }
   unfolding shownReel
   number-is-c κ a r t p e = p ∙ ap (λ (l : List ℕ). shownReel (opened l)) e ∙ ap shownReel (opened-good back)
 
@@ -212,7 +212,7 @@ module _ (κ : _) (a : _) (x : _) (t : _) (p : hsd-write.Post κ a x t) (z : x .
       rw (p .1) (front-reel (now (a .0)) (now (a .1 .0)) (now (a .1 .1 .0)) f)
 
   pub same-number-c : (κ′ : _) (b : _) (r : _) (u : _) → hsd-open.Post κ′ b r u → now (b .0) ≡ front (now (a .0)) (now (a .1 .0)) (now (t .1 .1 .0))
-      → r ≡ record { refusal = 0; block = 0; files = length fs }
+      → r ≡ record { refusal = 0; block = 0; files = length fs; offset = 0 }
   same-number-c = number-is-c written-reel-c fs h
 
   pub same-files-c : (κ′ : _) (b : _) (r : _) (u : _) → hsd-part.Post κ′ b r u → now (b .0) ≡ front (now (a .0)) (now (a .1 .0)) (now (t .1 .1 .0))
@@ -231,7 +231,7 @@ module _ (κ : _) (a : _) (x : _) (t : _) (p : hsd-seal.Post κ a x t) (z : x .r
       rw (p .1) (sealed-reel (now (a .0)) (now (a .1 .0)) (now (a .1 .1 .0)) f)
 
   pub sealed-number-c : (κ′ : _) (b : _) (r : _) (u : _) → hsd-open.Post κ′ b r u → now (b .0) ≡ sealed (now (a .0)) (now (a .1 .0)) (now (t .1 .1 .0))
-      → r ≡ record { refusal = 0; block = 0; files = length fs }
+      → r ≡ record { refusal = 0; block = 0; files = length fs; offset = 0 }
   sealed-number-c = number-is-c sealed-reel-c fs h
 
   pub sealed-files-c : (κ′ : _) (b : _) (r : _) (u : _) → hsd-part.Post κ′ b r u → now (b .0) ≡ sealed (now (a .0)) (now (a .1 .0)) (now (t .1 .1 .0))

@@ -1,13 +1,14 @@
 -- Laws of refusals: they are the paper's table's, and what is lent stays as it was.
 -- Assumes nothing.
 use mathlib.Core.Path.{_≡_, refl, sym, ap, _∙_}
-use mathlib.Core.Bool.{Bool, true, false, not, cond, _||_, and-eq-true-iff, or-true}
+use mathlib.Core.Bool.{Bool, true, false, not, cond, _&&_, _||_, and-eq-true-iff, or-true}
 use mathlib.Core.List.{List, [], _∷_, _++_}
 use Prim.Native.Nat.{ℕ}
 use native.Mathlib.Omega.{arith}
-use Rattle.rules.specs.Rules.{Turned, turned, Row, test, Ruling, fine, refused, judge, checked, after, refuses, reply, placeless}
+use Rattle.rules.specs.Rules.{Turned, turned, Row, test, Ruling, fine, refused, judge, checked, after, refuses, reply}
 use Rattle.rules.proofs.Judge.{judge-refused, turned-away}
 use lib.Dec.{eqb, leb}
+use borrow.Author.Tests.{eqb-true}
 use lib.ListN.{length, drop}
 use lib.IntN.{ℤ, pos}
 use Rattle.accept.specs.declared.Facts.{Facts}
@@ -15,7 +16,7 @@ use Rattle.plugin.specs.Plugin.{shownRuling, shownFile, shownFrame}
 use Rattle.plugin_frames.specs.Strips.{copiedOf, copyOf}
 use Rattle.plugin_reels.specs.Reels.{shownReel}
 use Rattle.promises.specs.Bare.{Bare}
-use Rattle.promises.specs.Blocks.{allowed, allowedC, inTable, Onward}
+use Rattle.promises.specs.Blocks.{table, listed, allowed, allowedC, inTable, Onward}
 
 same-turned : (t u : Turned) → refused t ≡ refused u → t ≡ u
 same-turned t u e = cc
@@ -28,20 +29,6 @@ refused-in (test true u ∷ rs) h t e = refused-in rs (and-eq-true-iff (allowed 
 refused-in (test false u ∷ rs) h t e =
     let q : u ≡ t = same-turned u t (sym (judge-refused u rs) ∙ e) in
     rw (← q) (and-eq-true-iff (allowed u) (inTable rs) .0 h .0)
-
--- an offset forgotten is 0
-forget : (n b p : ℕ) → allowed (turned n b p) ≡ true → allowed (turned n b 0) ≡ true
-unfolding allowed
-forget n b p h = rw (and-eq-true-iff (among b (blocksOf n)) (not (eqb b 0) || eqb p 0) .0 h .0) (or-true (not (eqb b 0)))
-
--- the same of a ruling that forgets its place
-pub placeless-in : (rs : List Row) → inTable rs ≡ true → (t : Turned) → placeless (judge fine rs) ≡ refused t → allowed t ≡ true
-unfolding placeless
-placeless-in rs h t e = go (judge fine rs) refl e
-  where
-    go : (r : Ruling) → judge fine rs ≡ r → placeless r ≡ refused t → allowed t ≡ true
-    go fine f e = absurd (let z : _≡_ {A = ℕ} 0 1 = cc in omega arith)
-    go (refused (turned n b p)) f e = let q : turned n b 0 ≡ t = same-turned (turned n b 0) t e in rw (← q) (forget n b p (refused-in rs h (turned n b p) f))
 
 -- the same of an answer that carries a value
 pub refuses-in : {A : Type 0} (rs : List Row) → inTable rs ≡ true → (x : A) (t : Turned) → reply (judge fine rs) x ≡ refuses t → allowed t ≡ true
@@ -101,21 +88,42 @@ unfolding shownFrame reply
 number-allowed rs h fine x e = refl
 number-allowed rs h (refused (turned n b p)) x e = rw (refused-in rs h (turned n b p) (sym e)) (or-true (eqb n 0))
 
--- what is shown of no refusal is none
-pub none-fine : (n b : ℕ) → allowed (turned n b) ≡ true → n ≡ 0 → ⊥
+-- what holds of every number of the table holds of one that is allowed
+abbrev Numbers : (ℕ → Bool) → List (ℕ × List ℕ) → Bool
+Numbers good [] = true
+Numbers good (t ∷ ts) = good (t .0) && Numbers good ts
+
+in-list : (good : ℕ → Bool) (ts : List (ℕ × List ℕ)) (n b : ℕ) → Numbers good ts ≡ true → listed n b ts ≡ true → good n ≡ true
+in-list good [] n b h e = absurd (let z : _≡_ {A = ℕ} 0 1 = cc in omega arith)
+in-list good (t ∷ ts) n b h e =
+    let k = and-eq-true-iff (good (t .0)) (Numbers good ts) .0 h in
+    go (eqb n (t .0)) refl (k .0) (λ q. in-list good ts n b (k .1) (rw q at e))
+  where
+    go : (same : Bool) → eqb n (t .0) ≡ same → good (t .0) ≡ true → (eqb n (t .0) ≡ false → good n ≡ true) → good n ≡ true
+    go true q f r = rw (eqb-true n (t .0) q) f
+    go false q f r = r q
+
+pub of-number : (good : ℕ → Bool) → Numbers good table ≡ true → (n b p : ℕ) → allowed (turned n b p) ≡ true → good n ≡ true
 unfolding allowed
-none-fine n b h e = let z : allowed (turned 0 b) ≡ true = rw e at h in let q : _≡_ {A = ℕ} 0 1 = cc in omega arith
+of-number good h n b p e = in-list good table n b h (and-eq-true-iff (listed n b table) (not (eqb b 0) || eqb p 0) .0 e .0)
+
+-- what is shown of no refusal is none
+pub none-fine : (n b p : ℕ) → allowed (turned n b p) ≡ true → n ≡ 0 → ⊥
+none-fine n b p h e =
+    let z : not (eqb 0 0) ≡ true = rw e at (of-number (λ k. not (eqb k 0)) refl n b p h) in
+    let q : _≡_ {A = ℕ} 0 1 = cc in
+    omega arith
 
 pub file-fine : (rs : List Row) → inTable rs ≡ true → (v : Ruling) (x : Facts) → v ≡ judge fine rs → shownFile (reply v x) .refusal ≡ 0 → v ≡ fine
 unfolding shownFile reply
 file-fine rs h fine x e z = refl
-file-fine rs h (refused (turned n b)) x e z = absurd (none-fine n b (refused-in rs h (turned n b) (sym e)) z)
+file-fine rs h (refused (turned n b p)) x e z = absurd (none-fine n b p (refused-in rs h (turned n b p) (sym e)) z)
 
 -- the answer to a refused file, and a frame number that is refused, show nothing else
 pub bare : (v : Ruling) (x : Facts) → (shownFile (reply v x) .refusal ≡ 0 → ⊥) → Bare (shownFile (reply v x))
 unfolding shownFile reply
 bare fine x h = absurd (h refl)
-bare (refused (turned n b)) x h = record {
+bare (refused (turned n b p)) x h = record {
   satellite = refl;
   quality = refl;
   day = refl;
@@ -137,15 +145,15 @@ bare (refused (turned n b)) x h = record {
 pub no-number : (v : Ruling) (x : ℤ) → (shownFrame (reply v x) .refusal ≡ 0 → ⊥) → shownFrame (reply v x) .number ≡ pos 0
 unfolding shownFrame reply
 no-number fine x h = absurd (h refl)
-no-number (refused (turned n b)) x h = refl
+no-number (refused (turned n b p)) x h = refl
 
 -- the same of a reel's answer
-pub reel-allowed : (rs : List Row) → inTable rs ≡ true → (v : Ruling) (x : ℕ) → v ≡ judge fine rs → allowedC (shownReel (reply v x) .refusal) (shownReel (reply v x) .block) ≡ true
+pub reel-allowed : (rs : List Row) → inTable rs ≡ true → (v : Ruling) (x : ℕ) → v ≡ judge fine rs → allowedC (shownReel (reply v x) .refusal) (shownReel (reply v x) .block) (shownReel (reply v x) .offset) ≡ true
 unfolding shownReel reply
 reel-allowed rs h fine x e = refl
-reel-allowed rs h (refused (turned n b)) x e = rw (refused-in rs h (turned n b) (sym e)) (or-true (eqb n 0))
+reel-allowed rs h (refused (turned n b p)) x e = rw (refused-in rs h (turned n b p) (sym e)) (or-true (eqb n 0))
 
 pub no-files : (v : Ruling) (x : ℕ) → (shownReel (reply v x) .refusal ≡ 0 → ⊥) → shownReel (reply v x) .files ≡ 0
 unfolding shownReel reply
 no-files fine x h = absurd (h refl)
-no-files (refused (turned n b)) x h = refl
+no-files (refused (turned n b p)) x h = refl

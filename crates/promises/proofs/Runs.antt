@@ -7,8 +7,8 @@ use native.Mathlib.Numerals.{add-one}
 use native.Mathlib.Omega.{arith}
 use lib.ListN.{length, getD, drop, length-append, length-replicate, length-set, List·getD-append, replicate}
 use lib.Seq.{ext-getD, getD-at}
-use lib.Dec.{eqb, leb}
-use borrow.Author.Tests.{leb-true, leb-false, le-leb, eq-eqb, eqb-true, eqb-false, ne-eqb, lt-leb}
+use lib.Dec.{eqb}
+use borrow.Author.Tests.{le-leb, eq-eqb, eqb-true, eqb-false}
 use denote.Ref.{now}
 use Rattle.wire.specs.Wire.{tab}
 use Rattle.wire.proofs.Rows.{length-tab, getD-tab}
@@ -27,7 +27,6 @@ use Rattle.assembly.specs.History.{File, bears, came, Apart, Agree, alone, line
 use Rattle.assembly.specs.Runs as library
 use Rattle.assembly.proofs.Demand.{apart-perm}
 use Rattle.assembly.proofs.Runs as runs
-use Rattle.tiling.proofs.Lawful.{below}
 use Rattle.plugin_frames.specs.declared.HsdSlate.{HsdSlate}
 use Rattle.plugin.specs.declared.HsdAnswer.{HsdAnswer}
 use Rattle.plugin.specs.Plugin.{shownRuling}
@@ -36,7 +35,7 @@ use Rattle.plugin_frames.proofs.Lending.{length-flags, lent-good, offer-strip}
 use Rattle.plugin_frames.proofs.hsd_open.Reads as hsd-open
 use Rattle.promises.specs.Blocks.{allowed}
 use Rattle.promises.specs.Runs.{Offer, filesOf, answersOf, RanC, opened, offered, AskedC, asked}
-use Rattle.promises.proofs.Refusals.{refused-in, none-fine}
+use Rattle.promises.proofs.Refusals.{refused-in, of-number, none-fine}
 use Rattle.promises.proofs.Demand1.{in-opening, in-offering, in-lent}
 
 -- ---- marks out and in again
@@ -79,98 +78,20 @@ good-out marks = and-eq-true-iff _ _ .1 (eq-eqb _ 99 (length-tab (λ k. oneOf (g
 
 -- ---- a ruling of the paper's table is some verdict's
 
--- no number above 18 is the table's, nor is 0
-none-above : (n b : ℕ) → 18 < n → allowed (turned n b) ≡ false
-unfolding allowed
-none-above n b h =
-    rw (
-      ne-eqb n 1 (λ e. omega arith),
-      ne-eqb n 2 (λ e. omega arith),
-      ne-eqb n 4 (λ e. omega arith),
-      ne-eqb n 5 (λ e. omega arith),
-      ne-eqb n 6 (λ e. omega arith),
-      ne-eqb n 7 (λ e. omega arith),
-      ne-eqb n 11 (λ e. omega arith),
-      ne-eqb n 12 (λ e. omega arith),
-      le-leb 13 n (omega arith),
-      lt-leb n 18 h,
-      ne-eqb n 3 (λ e. omega arith),
-      le-leb 8 n (omega arith),
-      lt-leb n 10 (omega arith),
-    )
-
-number-back : (n b : ℕ) → allowed (turned n b) ≡ true → numberOf (named n) ≡ n
-unfolding allowed named
-number-back n b e = go (leb n 18) refl
-  where
-    go : (t : Bool) → leb n 18 ≡ t → numberOf (named n) ≡ n
-    go true h = below (λ k. allowed (turned k b) ≡ true → numberOf (named k) ≡ k) 19 n (let l = leb-true n 18 h in omega arith) (
-      λ _. refl,
-      (
-        λ _. refl,
-        (
-          λ _. refl,
-          (
-            λ _. refl,
-            (
-              λ _. refl,
-              (
-                λ _. refl,
-                (
-                  λ _. refl,
-                  (
-                    λ _. refl,
-                    (
-                      λ _. refl,
-                      (
-                        λ _. refl,
-                        (
-                          λ _. refl,
-                          (
-                            λ _. refl,
-                            (
-                              λ _. refl,
-                              (
-                                λ _. refl,
-                                (
-                                  λ _. refl,
-                                  (
-                                    λ _. refl,
-                                    (
-                                      λ _. refl,
-                                      (
-                                        λ _. refl,
-                                        (λ z. absurd (let q : _≡_ {A = ℕ} 0 1 = cc in omega arith), tt),
-                                      ),
-                                    ),
-                                  ),
-                                ),
-                              ),
-                            ),
-                          ),
-                        ),
-                      ),
-                    ),
-                  ),
-                ),
-              ),
-            ),
-          ),
-        ),
-      ),
-    ) e
-    go false h = absurd (let z : true ≡ false = sym e ∙ none-above n b (leb-false n 18 h) in let q : _≡_ {A = ℕ} 0 1 = cc in omega arith)
+number-back : (n b p : ℕ) → allowed (turned n b p) ≡ true → numberOf (named n) ≡ n
+unfolding named
+number-back n b p e = eqb-true _ _ (of-number (λ k. eqb (numberOf (named k)) k) refl n b p e)
 
 paper-back : (r : Ruling) → ((u : Turned) → r ≡ refused u → allowed u ≡ true) → paper (verdictOf r) ≡ r
 unfolding paper verdictOf refusalOf
 paper-back fine h = refl
-paper-back (refused (turned n b)) h = rw (number-back n b (h (turned n b) refl))
+paper-back (refused (turned n b p)) h = rw (number-back n b p (h (turned n b p) refl))
 
 -- what is shown as no refusal is none
 pub shown-fine : (r : Ruling) → ((u : Turned) → r ≡ refused u → allowed u ≡ true) → shownRuling r .refusal ≡ 0 → r ≡ fine
 unfolding shownRuling
 shown-fine fine h e = refl
-shown-fine (refused (turned n b)) h e = absurd (none-fine n b (h (turned n b) refl) e)
+shown-fine (refused (turned n b p)) h e = absurd (none-fine n b p (h (turned n b p) refl) e)
 
 -- ---- opening
 

@@ -42,27 +42,27 @@ short s =
     let a = aOf s in
     let b = bOf s in
     let c = cOf s in (
-      λ h l. refuses-at s 0 (shape1 s o) (turned 1 1) refl h (here (lt-leb 282 (length s - 0) l)),
+      λ h l. refuses-at s 0 (shape1 s o) (turned 1 1 0) refl h (here (lt-leb 282 (length s - 0) l)),
       (
-        λ h l. refuses-at s 2 (shape s o 2 at2 50) (turned 1 2) refl h (here (lt-leb 50 (length s - at2) l)),
+        λ h l. refuses-at s 2 (shape s o 2 at2 50) (turned 1 2 at2) refl h (here (lt-leb 50 (length s - at2) l)),
         (
-          λ h l. refuses-at s 5 (shape s o 3 at3 127) (turned 1 3) refl h (here (lt-leb 127 (length s - at3) l)),
+          λ h l. refuses-at s 5 (shape s o 3 at3 127) (turned 1 3 at3) refl h (here (lt-leb 127 (length s - at3) l)),
           (
-            λ h l. refuses-at s 6 (shape s o 4 at4 139) (turned 1 4) refl h (here (lt-leb 139 (length s - at4) l)),
+            λ h l. refuses-at s 6 (shape s o 4 at4 139) (turned 1 4 at4) refl h (here (lt-leb 139 (length s - at4) l)),
             (
-              λ h l. refuses-at s 7 (shape s o 5 at5 147) (turned 1 5) refl h (here (lt-leb 147 (length s - at5) l)),
+              λ h l. refuses-at s 7 (shape s o 5 at5 147) (turned 1 5 at5) refl h (here (lt-leb 147 (length s - at5) l)),
               (
-                λ h l. refuses-at s 10 (shape s o 6 at6 259) (turned 1 6) refl h (here (lt-leb 259 (length s - at6) l)),
+                λ h l. refuses-at s 10 (shape s o 6 at6 259) (turned 1 6 at6) refl h (here (lt-leb 259 (length s - at6) l)),
                 (
-                  λ h l. refuses-at s 11 (shape s o 7 at7 47) (turned 1 7) refl h (here (lt-leb 47 (length s - at7) l)),
+                  λ h l. refuses-at s 11 (shape s o 7 at7 47) (turned 1 7 at7) refl h (here (lt-leb 47 (length s - at7) l)),
                   (
-                    λ h l. refuses-at s 13 (entries s 8 at8 (num o (span s (at8 + 1) 2)) 61 (length8 a)) (turned 1 8) refl h (here (lt-leb 61 (length s - at8) l)),
+                    λ h l. refuses-at s 13 (entries s 8 at8 (num o (span s (at8 + 1) 2)) 61 (length8 a)) (turned 1 8 at8) refl h (here (lt-leb 61 (length s - at8) l)),
                     (
-                      λ h l. refuses-at s 14 (entries s 9 (at9 a) (num o (span s (at9 a + 1) 2)) 45 (length9 b)) (turned 1 9) refl h (here (lt-leb 45 (length s - at9 a) l)),
+                      λ h l. refuses-at s 14 (entries s 9 (at9 a) (num o (span s (at9 a + 1) 2)) 45 (length9 b)) (turned 1 9 (at9 a)) refl h (here (lt-leb 45 (length s - at9 a) l)),
                       (
-                        λ h l. refuses-at s 15 (entries s 10 (at10 a b) (num o (span s (at10 a b + 1) 4)) 47 (length10 c)) (turned 1 10) refl h (here (lt-leb 47 (length s - at10 a b) l)),
+                        λ h l. refuses-at s 15 (entries s 10 (at10 a b) (num o (span s (at10 a b + 1) 4)) 47 (length10 c)) (turned 1 10 (at10 a b)) refl h (here (lt-leb 47 (length s - at10 a b) l)),
                         (
-                          λ h l. refuses-at s 16 (shape s o 11 (at11 a b c) 259) (turned 1 11) refl h (here (lt-leb 259 (length s - at11 a b c) l)),
+                          λ h l. refuses-at s 16 (shape s o 11 (at11 a b c) 259) (turned 1 11 (at11 a b c)) refl h (here (lt-leb 259 (length s - at11 a b c) l)),
                           tt,
                         ),
                       ),
@@ -77,7 +77,7 @@ short s =
     )
 
 -- the last of a table's four rows fails
-cut-entries : (s : List ℕ) (k at stated least full : ℕ) → least ≤ length s - at → getD s at 0 ≡ k → stated ≡ full → length s - at < full → First (entries s k at stated least full) (turned 1 k)
+cut-entries : (s : List ℕ) (k at stated least full : ℕ) → least ≤ length s - at → getD s at 0 ≡ k → stated ≡ full → length s - at < full → First (entries s k at stated least full) (turned 1 k at)
 unfolding entries
 cut-entries s k at stated least full l n e c = later (le-leb _ _ l) (later (eq-eqb _ _ n) (later (eq-eqb _ _ e) (here (lt-leb full (length s - at) c))))
 
@@ -87,11 +87,11 @@ short-again s =
     let a = aOf s in
     let b = bOf s in
     let c = cOf s in (
-      λ h l n e g. refuses-at s 13 (entries s 8 at8 (num o (span s (at8 + 1) 2)) 61 (length8 a)) (turned 1 8) refl h (cut-entries s 8 at8 _ 61 (length8 a) l n e g),
+      λ h l n e g. refuses-at s 13 (entries s 8 at8 (num o (span s (at8 + 1) 2)) 61 (length8 a)) (turned 1 8 at8) refl h (cut-entries s 8 at8 _ 61 (length8 a) l n e g),
       (
-        λ h l n e g. refuses-at s 14 (entries s 9 (at9 a) (num o (span s (at9 a + 1) 2)) 45 (length9 b)) (turned 1 9) refl h (cut-entries s 9 (at9 a) _ 45 (length9 b) l n e g),
+        λ h l n e g. refuses-at s 14 (entries s 9 (at9 a) (num o (span s (at9 a + 1) 2)) 45 (length9 b)) (turned 1 9 (at9 a)) refl h (cut-entries s 9 (at9 a) _ 45 (length9 b) l n e g),
         (
-          λ h l n e g. refuses-at s 15 (entries s 10 (at10 a b) (num o (span s (at10 a b + 1) 4)) 47 (length10 c)) (turned 1 10) refl h (cut-entries s 10 (at10 a b) _ 47 (length10 c) l n e g),
+          λ h l n e g. refuses-at s 15 (entries s 10 (at10 a b) (num o (span s (at10 a b + 1) 4)) 47 (length10 c)) (turned 1 10 (at10 a b)) refl h (cut-entries s 10 (at10 a b) _ 47 (length10 c) l n e g),
           tt,
         ),
       ),

@@ -1,29 +1,61 @@
 -- The refusals of the paper's table, each with the blocks that it shows.
 use Prim.Native.Nat.{ℕ}
 use mathlib.Core.Path.{_≡_}
-use mathlib.Core.Bool.{Bool, true, false, cond, _&&_, _||_}
+use mathlib.Core.Bool.{Bool, true, false, not, _&&_, _||_}
 use mathlib.Core.List.{List, [], _∷_}
-use lib.Dec.{eqb, leb}
+use lib.Dec.{eqb}
 use Rattle.rules.specs.Rules.{Turned, turned, Row, test, Ruling, fine, refused}
 
--- 1 SHORT, 2 NUMBER and 4 LENGTH: block k; 5 FIXED; 6 PACKED; 7 FIELD; 11 CUT and 12 TAIL; 13 SLATE to 18 REEL; the others: block 1
-abbrev blocksOf : ℕ → List ℕ
-blocksOf n =
-    cond (eqb n 1 || (eqb n 2 || eqb n 4)) (1 ∷ 2 ∷ 3 ∷ 4 ∷ 5 ∷ 6 ∷ 7 ∷ 8 ∷ 9 ∷ 10 ∷ 11 ∷ [])
-    (cond (eqb n 5) (1 ∷ 2 ∷ 5 ∷ [])
-    (cond (eqb n 6) (2 ∷ [])
-    (cond (eqb n 7) (0 ∷ 1 ∷ 2 ∷ 5 ∷ 7 ∷ [])
-    (cond (eqb n 11 || eqb n 12) (12 ∷ [])
-    (cond (leb 13 n && leb n 18) (0 ∷ [])
-    (cond (eqb n 3 || leb 8 n && leb n 10) (1 ∷ []) []))))))
+-- a header's blocks
+abbrev every : List ℕ
+every = 1 ∷ 2 ∷ 3 ∷ 4 ∷ 5 ∷ 6 ∷ 7 ∷ 8 ∷ 9 ∷ 10 ∷ 11 ∷ []
+
+-- 12 are the counts, and 0 is no block
+abbrev pub table : List (ℕ × List ℕ)
+table =
+    -- SHORT, NUMBER, ORDER, LENGTH, FIXED, PACKED
+    (1, every)
+    ∷ (2, every)
+    ∷ (3, 1 ∷ [])
+    ∷ (4, every)
+    ∷ (5, 1 ∷ 2 ∷ 5 ∷ [])
+    ∷ (6, 2 ∷ [])
+    -- HEADER SUM, DATA SUM, NAME, CUT, TAIL
+    ∷ (8, 1 ∷ [])
+    ∷ (9, 1 ∷ [])
+    ∷ (10, 1 ∷ [])
+    ∷ (11, 12 ∷ [])
+    ∷ (12, 12 ∷ [])
+    -- SLATE, STRIP, OTHER SHOT, ALREADY, ROOM, REEL
+    ∷ (13, 0 ∷ [])
+    ∷ (14, 0 ∷ [])
+    ∷ (15, 0 ∷ [])
+    ∷ (16, 0 ∷ [])
+    ∷ (17, 0 ∷ [])
+    ∷ (18, 0 ∷ [])
+    -- satellite, area, timeline, columns or lines, compression flag, band, valid bits, segment numbers or first line, day
+    ∷ (31, 1 ∷ [])
+    ∷ (32, 1 ∷ [])
+    ∷ (33, 0 ∷ 1 ∷ [])
+    ∷ (34, 2 ∷ [])
+    ∷ (35, 2 ∷ [])
+    ∷ (36, 5 ∷ [])
+    ∷ (37, 5 ∷ [])
+    ∷ (38, 7 ∷ [])
+    ∷ (39, 0 ∷ [])
+    ∷ []
 
 abbrev among : ℕ → List ℕ → Bool
 among b [] = false
 among b (x ∷ xs) = eqb b x || among b xs
 
--- the table has this number with this block
+abbrev pub listed : ℕ → ℕ → List (ℕ × List ℕ) → Bool
+listed n b [] = false
+listed n b (t ∷ ts) = eqb n (t .0) && among b (t .1) || listed n b ts
+
+-- the table has this number with this block, and block 0 has the offset 0
 unfoldable pub allowed : Turned → Bool
-allowed (turned n b) = among b (blocksOf n)
+allowed (turned n b p) = listed n b table && (not (eqb b 0) || eqb p 0)
 
 -- every row's refusal is one of the table's
 unfoldable pub inTable : List Row → Bool

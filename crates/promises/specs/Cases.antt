@@ -98,7 +98,7 @@ table =
     ∷ header 4 2 0 1523
     ∷ block8 6547 65531
     ∷ written8 6547 fine
-    ∷ unwritten8 6548 (turned 4 8)
+    ∷ unwritten8 6548 (turned 4 8 0)
     ∷ block9 6549 65535
     ∷ block10 65535 262187
     ∷ header 6547 6549 65535 394563
@@ -109,7 +109,7 @@ table =
     ∷ count huge minusOne 11 2 Uncalibrated
     ∷ date 2015 7 7 (says 57210)
     ∷ date 2099 12 31 (says 88068)
-    ∷ name (text "20230229") (turned 10 1)
+    ∷ name (text "20230229") (turned 10 1 114)
     ∷ slot 57210 200 (says 8238252)
     ∷ film 57209 2350 57210 0 (says (pos 1))
     ∷ film 57210 0 57209 2350 (says (negsuc 0))

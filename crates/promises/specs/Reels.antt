@@ -38,7 +38,7 @@ Own f u = judge fine (checks f) ≡ refused u
 pub record Opening (Says : Reply ℕ → Type 0) (s : List ℕ) : Type 0 where
   pub good : (fs : List File) → Reel s fs → Says (says (length fs))
   pub own : (fs gs : List File) (f : File) (u : Turned) → Laid s (fs ++ (f ∷ gs)) → Good fs → Own f u → Says (refuses u)
-  pub broken : Bytes s → ((ps : List File) → Laid s ps → ⊥) → Says (refuses (turned 18 0))
+  pub broken : Bytes s → ((ps : List File) → Laid s ps → ⊥) → Says (refuses (turned 18 0 0))
 
 -- What writing says and leaves, whatever is handed over: what the list is written as and then the rest of the output as it was; the first bad
 -- file's own refusal; last ROOM; and REEL before all of these, where no list that a reel can hold was handed over. A refusal leaves the output.
@@ -48,5 +48,5 @@ pub record Writing (Says : Ruling → Type 0) (bytes : List File → List ℕ) (
   pub own : (fs gs : List File) (f : File) (u : Turned) → Handed files lengths (fs ++ (f ∷ gs)) → Fits (fs ++ (f ∷ gs)) → Good fs → Own f u
       → Says (refused u) × (left ≡ out)
   pub room : (fs : List File) → Handed files lengths fs → Fits fs → Good fs → length out < length (bytes fs)
-      → Says (refused (turned 17 0)) × (left ≡ out)
-  pub reel : ((ps : List File) → Handed files lengths ps → Fits ps → ⊥) → Says (refused (turned 18 0)) × (left ≡ out)
+      → Says (refused (turned 17 0 0)) × (left ≡ out)
+  pub reel : ((ps : List File) → Handed files lengths ps → Fits ps → ⊥) → Says (refused (turned 18 0 0)) × (left ≡ out)

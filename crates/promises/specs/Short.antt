@@ -56,9 +56,9 @@ blocks s =
     ∷ (11, 16, at11 (aOf s) (bOf s) (cOf s), 259)
     ∷ []
 
--- too few bytes remain for a block, and no check before its own fails: the file is refused with 1 and that block
+-- too few bytes remain for a block, and no check before its own fails: the file is refused with 1, that block, and where it starts
 abbrev pub Short : List ℕ → (ℕ × ℕ × ℕ × ℕ) → Type 0
-Short s b = judge fine (tables (take (b .1) (inOrder s))) ≡ fine → length s - b .2 < b .3 → answerOf s ≡ refuses (turned 1 (b .0))
+Short s b = judge fine (tables (take (b .1) (inOrder s))) ≡ fine → length s - b .2 < b .3 → answerOf s ≡ refuses (turned 1 (b .0) (b .2))
 
 abbrev pub All : List ℕ → List (ℕ × ℕ × ℕ × ℕ) → Type 0
 All s [] = Unit
@@ -80,7 +80,7 @@ withEntries s =
 abbrev pub ShortAgain : List ℕ → (ℕ × ℕ × ℕ × ℕ × ℕ × ℕ) → Type 0
 ShortAgain s b =
     judge fine (tables (take (b .1) (inOrder s))) ≡ fine → b .4 ≤ length s - b .2 → getD s (b .2) 0 ≡ b .0 → b .3 ≡ b .5 → length s - b .2 < b .5
-    → answerOf s ≡ refuses (turned 1 (b .0))
+    → answerOf s ≡ refuses (turned 1 (b .0) (b .2))
 
 abbrev pub AllAgain : List ℕ → List (ℕ × ℕ × ℕ × ℕ × ℕ × ℕ) → Type 0
 AllAgain s [] = Unit
