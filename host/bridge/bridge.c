@@ -8,11 +8,14 @@
      1  open: the rest is the reel; the answer is an HsdReel as it stands in memory.
      2  part: eight bytes, the part's number (its low 16 bits), then the reel; the answer is an HsdPart.
      3  write: eight bytes each, how many lengths there are and how many bytes of output; then the lengths, four
-        bytes each, and the files. The answer is an HsdAnswer and the whole output, filled with 0xaa before.
+        bytes each, and the files. The answer is a verdict and the whole output, filled with 0xaa before.
      4  seal: as 3.
      5  trailer: eight bytes, the number of files; the answer is eight bytes.
-   A question of another number, with bytes that are too few, or with bytes that have no meaning behind those of 0
-   and 5 ends the bridge with status 1. Built with the kit's own compiler, which has no headers: what is used of C is
+     6  frame number: eight bytes each, the first shot's day and timeline and the shot's (their low 32 and 16 bits);
+        the answer is an HsdFrameNumber as it stands in memory.
+   A verdict is an HsdAnswer in six bytes: refusal, block, and four for the offset with the lowest first. A question of
+   another number, with bytes that are too few, or with bytes that have no meaning behind those of 0, 5 and 6 ends the
+   bridge with status 1. Built with the kit's own compiler, which has no headers: what is used of C is
    declared here. */
 typedef unsigned char u8;
 typedef unsigned short u16;
@@ -21,7 +24,7 @@ typedef unsigned long u64;
 
 typedef struct HsdFile {
     u8 refusal, block, satellite, quality;
-    u32 day;
+    u32 offset, day;
     u16 timeline, band;
     u32 area;
     u16 columns, lines;
@@ -44,19 +47,28 @@ typedef struct HsdSlate {
 
 typedef struct HsdAnswer {
     u8 refusal, block;
+    u32 offset;
 } HsdAnswer;
 
 typedef struct HsdReel {
     u8 refusal, block;
     u16 files;
+    u32 offset;
 } HsdReel;
 
 typedef struct HsdPart {
     u32 offset, length;
 } HsdPart;
 
+typedef struct HsdFrameNumber {
+    u8 refusal, block;
+    u32 offset;
+    long number;
+} HsdFrameNumber;
+
 HsdFile hsd_accept(const u8 *file, u64 length);
 HsdQuality hsd_quality(u8 quality);
+HsdFrameNumber hsd_frame_number(u32 first_day, u16 first_timeline, u32 day, u16 timeline);
 HsdAnswer hsd_open(HsdSlate slate, u8 *marks, u64 marks_length, u16 *frame, u64 frame_length);
 HsdAnswer hsd_offer(HsdSlate slate, u8 *marks, u64 marks_length, u16 *frame, u64 frame_length, const u8 *file,
                     u64 file_length);
@@ -160,6 +172,14 @@ static void answer(const void *what, u64 length)
     waiting += length;
 }
 
+/* Without the padding, which may hold anything. */
+static void answer_verdict(HsdAnswer told)
+{
+    answer(&told.refusal, sizeof told.refusal);
+    answer(&told.block, sizeof told.block);
+    answer(&told.offset, sizeof told.offset);
+}
+
 static void accepted(const u8 *file, u64 length, int timed)
 {
     if (timed) {
@@ -174,7 +194,7 @@ static void accepted(const u8 *file, u64 length, int timed)
 }
 
 /* One frame, step by step. These numbers say how many there are of each: files' lengths follow, eight bytes each, then
-   frame, leader, steps, marks, and the bytes of all files. A step to open or to offer answers an HsdAnswer and, where it
+   frame, leader, steps, marks, and the bytes of all files. A step to open or to offer answers a verdict and, where it
    is watched, frame and marks. A line answers how many counts it has and the output, filled with 0xaa before. At the end
    come frame and marks. */
 typedef struct History {
@@ -242,7 +262,7 @@ static void take(const History *h, Stage s, Step step)
     }
     HsdAnswer told = step.kind == OFFER ? offer(h, s, step.of)
                                         : hsd_open(h->slate, s.marks, h->marks, s.frame, h->frame);
-    answer(&told, sizeof told);
+    answer_verdict(told);
     if (h->watched)
         show(h, s);
 }
@@ -315,6 +335,17 @@ static void ask_trailer(Rest rest)
     answer(&told, sizeof told);
 }
 
+static void ask_frame_number(Rest rest)
+{
+    u32 first_day = (u32)next_number(&rest);
+    u16 first_timeline = (u16)next_number(&rest);
+    u32 day = (u32)next_number(&rest);
+    u16 timeline = (u16)next_number(&rest);
+    end(rest);
+    HsdFrameNumber told = hsd_frame_number(first_day, first_timeline, day, timeline);
+    answer(&told, sizeof told);
+}
+
 /* hsd_reel_write or hsd_reel_seal. */
 typedef HsdAnswer Writer(const u8 *, u64, const u32 *, u64, u8 *, u64);
 
@@ -329,15 +360,14 @@ static void ask_writer(Rest rest, Writer *writer)
     const u32 *lengths = (const u32 *)next(&rest, lengths_length * sizeof(u32));
     out = room(out, out_length);
     memset(out, 0xaa, out_length);
-    HsdAnswer told = writer(rest.bytes, rest.length, lengths, lengths_length, out, out_length);
-    answer(&told, sizeof told);
+    answer_verdict(writer(rest.bytes, rest.length, lengths, lengths_length, out, out_length));
     answer(out, out_length);
 }
 
 /* Questions have numbers of their own: the length's two top bits have no more kinds to give. */
 static void reply(u8 *request, u64 length)
 {
-    enum { QUALITY, REEL, PART, WRITE, SEAL, TRAILER };
+    enum { QUALITY, REEL, PART, WRITE, SEAL, TRAILER, FRAME_NUMBER };
     Rest rest = { request, length };
     switch (next_number(&rest)) {
     case QUALITY: ask_quality(rest); break;
@@ -346,6 +376,7 @@ static void reply(u8 *request, u64 length)
     case WRITE: ask_writer(rest, hsd_reel_write); break;
     case SEAL: ask_writer(rest, hsd_reel_seal); break;
     case TRAILER: ask_trailer(rest); break;
+    case FRAME_NUMBER: ask_frame_number(rest); break;
     default: exit(1);
     }
 }

@@ -1,5 +1,6 @@
 //! Acceptance of a file, check by check in the order of document 01. The first check that fails
-//! answers. All numbers are widened to 64 bits, so that no sum or product can wrap.
+//! answers, with the place of its field by document 02. All numbers are widened to 64 bits, so that
+//! no sum or product can wrap.
 
 pub const SHORT: u8 = 1;
 pub const NUMBER: u8 = 2;
@@ -7,7 +8,6 @@ pub const ORDER: u8 = 3;
 pub const LENGTH: u8 = 4;
 pub const FIXED: u8 = 5;
 pub const PACKED: u8 = 6;
-pub const FIELD: u8 = 7;
 pub const HEADER_SUM: u8 = 8;
 pub const DATA_SUM: u8 = 9;
 pub const NAME: u8 = 10;
@@ -15,12 +15,38 @@ pub const CUT: u8 = 11;
 pub const TAIL: u8 = 12;
 /// Not of a file: the writer's output, or a slice lent for entries, is too short.
 pub const ROOM: u8 = 17;
+/// These are fields out of their ranges.
+pub const SATELLITE_FIELD: u8 = 31;
+pub const AREA_FIELD: u8 = 32;
+pub const TIMELINE_FIELD: u8 = 33;
+/// Columns or lines.
+pub const SIZE_FIELD: u8 = 34;
+pub const COMPRESSION_FIELD: u8 = 35;
+pub const BAND_FIELD: u8 = 36;
+pub const BITS_FIELD: u8 = 37;
+/// Segment total, segment number or first line.
+pub const SEGMENT_FIELD: u8 = 38;
 
-/// Why a file is turned away: the paper's number and the block shown with it.
+/// Why a file is turned away: the paper's number, the block shown with it, and where the field that
+/// it concerns stands, in bytes from the file's start. What comes from no file has the offset 0.
 #[derive(Clone, Copy, Debug, PartialEq, Eq)]
 pub struct Refusal {
     pub number: u8,
     pub block: u8,
+    pub offset: u32,
+}
+
+/// Refusal, block and offset, as they are told.
+pub type Answer = (u8, u8, u32);
+
+/// What is told where nothing is refused.
+pub const FINE: Answer = (0, 0, 0);
+
+pub fn numbers<T>(answer: &Result<T, Refusal>) -> Answer {
+    match answer {
+        Ok(_) => FINE,
+        Err(refusal) => (refusal.number, refusal.block, refusal.offset),
+    }
 }
 
 /// What an accepted file says.
@@ -57,42 +83,37 @@ pub fn accept(file: &[u8]) -> Result<Facts, Refusal> {
     let size = file.len() as u64;
 
     // Block 1. The byte order comes first: it rules how even this block's length is read.
-    demand(size >= 282, SHORT, 1)?;
-    demand(file[0] == 1, NUMBER, 1)?;
+    demand_at(0, size >= 282, SHORT, 1)?;
+    demand_at(0, file[0] == 1, NUMBER, 1)?;
     let order = file[5];
-    demand(order <= 1, ORDER, 1)?;
+    demand_at(5, order <= 1, ORDER, 1)?;
     let read = Reader {
         file,
         big: order == 1,
     };
-    demand(read.two(1) == 282, LENGTH, 1)?;
-    demand(read.two(3) == 11, FIXED, 1)?;
+    demand_at(1, read.two(1) == 282, LENGTH, 1)?;
+    demand_at(3, read.two(3) == 11, FIXED, 1)?;
     let satellite = match &file[6..22] {
         b"Himawari-8\0\0\0\0\0\0" => 8,
         b"Himawari-9\0\0\0\0\0\0" => 9,
-        _ => {
-            return Err(Refusal {
-                number: FIELD,
-                block: 1,
-            })
-        }
+        _ => return Err(refused_at(6, SATELLITE_FIELD, 1)),
     };
     let area = [file[38], file[39], file[40], file[41]];
-    demand(is_area(&area), FIELD, 1)?;
+    demand_at(38, is_area(&area), AREA_FIELD, 1)?;
     let timeline = read.two(44);
-    demand(is_timeline(timeline), FIELD, 1)?;
+    demand_at(44, is_timeline(timeline), TIMELINE_FIELD, 1)?;
 
-    // Block 2.
+    // Block 2. The compression flag stands behind the size, and only PACKED comes before it.
     let start_2 = 282;
     read.opens(2, start_2, 50)?;
-    demand(read.two(start_2 + 3) == 16, FIXED, 2)?;
+    demand_at(start_2 + 3, read.two(start_2 + 3) == 16, FIXED, 2)?;
     let flag = read.one(start_2 + 9);
-    demand(flag != 1 && flag != 2, PACKED, 2)?;
+    demand_at(start_2 + 9, flag != 1 && flag != 2, PACKED, 2)?;
     let columns = read.two(start_2 + 5);
-    demand((1..=22_000).contains(&columns), FIELD, 2)?;
+    demand_at(start_2 + 5, is_size(columns), SIZE_FIELD, 2)?;
     let lines = read.two(start_2 + 7);
-    demand((1..=22_000).contains(&lines), FIELD, 2)?;
-    demand(flag == 0, FIELD, 2)?;
+    demand_at(start_2 + 7, is_size(lines), SIZE_FIELD, 2)?;
+    demand_at(start_2 + 9, flag == 0, COMPRESSION_FIELD, 2)?;
 
     // Blocks 3 and 4 are carried.
     let start_3 = start_2 + 50;
@@ -100,15 +121,16 @@ pub fn accept(file: &[u8]) -> Result<Facts, Refusal> {
     let start_4 = start_3 + 127;
     read.opens(4, start_4, 139)?;
 
-    // Block 5.
+    // Block 5. The special counts stand behind the band and its bits, and yet they come first.
     let start_5 = start_4 + 139;
     read.opens(5, start_5, 147)?;
-    demand(read.two(start_5 + 15) == 65_535, FIXED, 5)?;
-    demand(read.two(start_5 + 17) == 65_534, FIXED, 5)?;
+    demand_at(start_5 + 15, read.two(start_5 + 15) == 65_535, FIXED, 5)?;
+    demand_at(start_5 + 17, read.two(start_5 + 17) == 65_534, FIXED, 5)?;
     let band = read.two(start_5 + 3);
-    demand((1..=16).contains(&band), FIELD, 5)?;
+    demand_at(start_5 + 3, (1..=16).contains(&band), BAND_FIELD, 5)?;
     let valid_bits = read.two(start_5 + 13);
-    demand(valid_bits == valid_bits_of_band(band), FIELD, 5)?;
+    let right_bits = valid_bits_of_band(band);
+    demand_at(start_5 + 13, valid_bits == right_bits, BITS_FIELD, 5)?;
     let gain = read.eight(start_5 + 19);
     let constant = read.eight(start_5 + 27);
 
@@ -120,39 +142,41 @@ pub fn accept(file: &[u8]) -> Result<Facts, Refusal> {
     let start_7 = start_6 + 259;
     read.opens(7, start_7, 47)?;
     let total = read.one(start_7 + 3);
-    demand((1..=99).contains(&total), FIELD, 7)?;
+    demand_at(start_7 + 3, (1..=99).contains(&total), SEGMENT_FIELD, 7)?;
     let number = read.one(start_7 + 4);
-    demand((1..=total).contains(&number), FIELD, 7)?;
+    let counted = (1..=total).contains(&number);
+    demand_at(start_7 + 4, counted, SEGMENT_FIELD, 7)?;
     let first_line = read.two(start_7 + 5);
-    demand(first_line >= 1, FIELD, 7)?;
-    demand(first_line + lines - 1 <= 22_000, FIELD, 7)?;
+    let inside = first_line >= 1 && first_line + lines - 1 <= 22_000;
+    demand_at(start_7 + 5, inside, SEGMENT_FIELD, 7)?;
 
     // Blocks 8 to 10: the block without entries must be there before it is looked at, its length
     // must fit its own count, and then the whole block must be there.
     let start_8 = start_7 + 47;
-    demand(size >= start_8 + 61, SHORT, 8)?;
-    demand(read.one(start_8) == 8, NUMBER, 8)?;
+    demand_at(start_8, size >= start_8 + 61, SHORT, 8)?;
+    demand_at(start_8, read.one(start_8) == 8, NUMBER, 8)?;
     let a = read.two(start_8 + 19);
     let length_8 = 61 + 10 * a;
-    demand(read.two(start_8 + 1) == length_8, LENGTH, 8)?;
-    demand(size >= start_8 + length_8, SHORT, 8)?;
+    demand_at(start_8 + 1, read.two(start_8 + 1) == length_8, LENGTH, 8)?;
+    demand_at(start_8, size >= start_8 + length_8, SHORT, 8)?;
 
     let start_9 = start_8 + length_8;
-    demand(size >= start_9 + 45, SHORT, 9)?;
-    demand(read.one(start_9) == 9, NUMBER, 9)?;
+    demand_at(start_9, size >= start_9 + 45, SHORT, 9)?;
+    demand_at(start_9, read.one(start_9) == 9, NUMBER, 9)?;
     let b = read.two(start_9 + 3);
     let length_9 = 45 + 10 * b;
-    demand(read.two(start_9 + 1) == length_9, LENGTH, 9)?;
-    demand(size >= start_9 + length_9, SHORT, 9)?;
+    demand_at(start_9 + 1, read.two(start_9 + 1) == length_9, LENGTH, 9)?;
+    demand_at(start_9, size >= start_9 + length_9, SHORT, 9)?;
 
     // Block 10 alone has a length of four bytes.
     let start_10 = start_9 + length_9;
-    demand(size >= start_10 + 47, SHORT, 10)?;
-    demand(read.one(start_10) == 10, NUMBER, 10)?;
+    demand_at(start_10, size >= start_10 + 47, SHORT, 10)?;
+    demand_at(start_10, read.one(start_10) == 10, NUMBER, 10)?;
     let c = read.two(start_10 + 5);
     let length_10 = 47 + 4 * c;
-    demand(read.four(start_10 + 1) == length_10, LENGTH, 10)?;
-    demand(size >= start_10 + length_10, SHORT, 10)?;
+    let told_10 = read.four(start_10 + 1);
+    demand_at(start_10 + 1, told_10 == length_10, LENGTH, 10)?;
+    demand_at(start_10, size >= start_10 + length_10, SHORT, 10)?;
 
     // Block 11 is spare.
     let start_11 = start_10 + length_10;
@@ -160,9 +184,9 @@ pub fn accept(file: &[u8]) -> Result<Facts, Refusal> {
 
     // The sums, the name and the counts come after all blocks.
     let header_length = start_11 + 259;
-    demand(read.four(70) == header_length, HEADER_SUM, 1)?;
+    demand_at(70, read.four(70) == header_length, HEADER_SUM, 1)?;
     let data_length = 2 * columns * lines;
-    demand(read.four(74) == data_length, DATA_SUM, 1)?;
+    demand_at(74, read.four(74) == data_length, DATA_SUM, 1)?;
     let shot = Shot {
         satellite,
         timeline,
@@ -171,14 +195,10 @@ pub fn accept(file: &[u8]) -> Result<Facts, Refusal> {
         number,
         total,
     };
-    let Some(day) = day_of_name(&file[114..242], &shot) else {
-        return Err(Refusal {
-            number: NAME,
-            block: 1,
-        });
-    };
-    demand(size >= header_length + data_length, CUT, 12)?;
-    demand(size <= header_length + data_length, TAIL, 12)?;
+    let day = day_of_name(&file[114..242], &shot).ok_or(refused_at(114, NAME, 1))?;
+    let end = header_length + data_length;
+    demand_at(header_length, size >= end, CUT, 12)?;
+    demand_at(header_length, size <= end, TAIL, 12)?;
 
     // Each value came from a field of this width, or was found small enough above.
     Ok(Facts {
@@ -204,11 +224,26 @@ pub fn accept(file: &[u8]) -> Result<Facts, Refusal> {
     })
 }
 
+/// A check of something that stands nowhere in a file.
 pub(crate) fn demand(holds: bool, number: u8, block: u8) -> Result<(), Refusal> {
+    demand_at(0, holds, number, block)
+}
+
+/// A check of the field that stands there in a file.
+fn demand_at(offset: u64, holds: bool, number: u8, block: u8) -> Result<(), Refusal> {
     if holds {
         Ok(())
     } else {
-        Err(Refusal { number, block })
+        Err(refused_at(offset, number, block))
+    }
+}
+
+fn refused_at(offset: u64, number: u8, block: u8) -> Refusal {
+    Refusal {
+        number,
+        block,
+        // all fields stand in the header, which has at most 394,563 bytes
+        offset: offset as u32,
     }
 }
 
@@ -246,10 +281,16 @@ impl Reader<'_> {
 
     /// The checks with which every block of one fixed length begins, block 1 apart.
     fn opens(&self, block: u8, start: u64, length: u64) -> Result<(), Refusal> {
-        demand(self.file.len() as u64 >= start + length, SHORT, block)?;
-        demand(self.one(start) == u64::from(block), NUMBER, block)?;
-        demand(self.two(start + 1) == length, LENGTH, block)
+        let end = start + length;
+        demand_at(start, self.file.len() as u64 >= end, SHORT, block)?;
+        demand_at(start, self.one(start) == u64::from(block), NUMBER, block)?;
+        demand_at(start + 1, self.two(start + 1) == length, LENGTH, block)
     }
+}
+
+/// Columns or lines.
+fn is_size(size: u64) -> bool {
+    (1..=22_000).contains(&size)
 }
 
 pub(crate) fn is_area(area: &[u8; 4]) -> bool {

@@ -1,8 +1,9 @@
 //! What C may do with one frame, step by step: open it, offer files, ask for lines. A whole history
 //! is one request to the bridge, and the reference says what the whole answer must be.
 
-use crate::accept::{demand, Refusal};
+use crate::accept::{demand, numbers, Refusal};
 use crate::assemble::{self, Record, Slate, MARKS, SLATE};
+use crate::proved::six_bytes;
 
 #[derive(Clone, Copy, Debug)]
 pub enum Step {
@@ -36,8 +37,8 @@ pub struct Stage {
 /// What a step answers.
 #[derive(Clone, Debug, PartialEq, Eq)]
 pub enum Told {
-    /// The refusal and its block, 0 and 0 for none, and the stage afterwards if it is watched.
-    Answer((u8, u8), Option<Stage>),
+    /// The refusal, if it is one, and the stage afterwards if it is watched.
+    Answer(Result<(), Refusal>, Option<Stage>),
     /// How many counts the line has, and the whole output.
     Line(u64, Vec<u16>),
 }
@@ -69,11 +70,7 @@ impl History {
     }
 
     fn answer(&self, answer: Result<(), Refusal>, stage: &Stage) -> Told {
-        let numbers = match answer {
-            Ok(()) => (0, 0),
-            Err(refusal) => (refusal.number, refusal.block),
-        };
-        Told::Answer(numbers, self.watched.then(|| stage.clone()))
+        Told::Answer(answer, self.watched.then(|| stage.clone()))
     }
 
     /// A line that is refused or has no room leaves the output as it was.
@@ -165,8 +162,8 @@ impl Told {
     pub fn bytes(&self) -> Vec<u8> {
         let mut bytes = Vec::new();
         match self {
-            Told::Answer((refusal, block), stage) => {
-                bytes.extend([refusal, block]);
+            Told::Answer(answer, stage) => {
+                bytes.extend(six_bytes(numbers(answer)));
                 if let Some(stage) = stage {
                     stage.write(&mut bytes);
                 }

@@ -1,12 +1,15 @@
 //! The images that the readers and the writer are tried on, each made from a seed and its number with
 //! the answers that the reference expects, and the refusals that they can lead to.
 
-use crate::accept::{accept, Facts, Refusal, FIELD, LENGTH, NAME, ORDER, PACKED, ROOM};
+use crate::accept::{
+    accept, Facts, Refusal, AREA_FIELD, BAND_FIELD, BITS_FIELD, COMPRESSION_FIELD, LENGTH, NAME,
+    ORDER, PACKED, ROOM, SATELLITE_FIELD, SEGMENT_FIELD, SIZE_FIELD, TIMELINE_FIELD,
+};
 use crate::damage;
 use crate::make::{Recipe, Sample, GREATEST_A, GREATEST_B, GREATEST_C};
 use crate::mix::{large_case, setting, small_case};
 use crate::random::Random;
-use crate::tally::Row;
+use crate::tally::{Place::At, Row};
 use crate::values::Values;
 
 pub const LONGEST_IMAGE: usize = 65_536;
@@ -67,6 +70,7 @@ impl Images {
                 Ok(header) if room < header.len() => Err(Refusal {
                     number: ROOM,
                     block: 0,
+                    offset: 0,
                 }),
                 answer => answer,
             },
@@ -221,13 +225,21 @@ fn room_for_entries(counts: [usize; 3], random: &mut Random) -> usize {
     }
 }
 
-/// Every refusal of the writer that an image can lead to, with the blocks that it can name. Too many
-/// entries in block 10 is not one of them: their count has two bytes.
-pub const REFUSALS: [Row; 6] = [
-    (ORDER, "ORDER", &[1]),
-    (LENGTH, "LENGTH", &[8, 9]),
-    (PACKED, "PACKED", &[2]),
-    (FIELD, "FIELD", &[1, 2, 5, 7]),
-    (NAME, "NAME", &[1]),
-    (ROOM, "ROOM", &[0]),
+/// Every refusal of the writer that an image can lead to, with the blocks that it can name: none has a
+/// place, since the values come from no file. Too many entries in block 10 is not one of them: their count
+/// has two bytes.
+pub const REFUSALS: [Row; 13] = [
+    (ORDER, "ORDER", &[At(1, 0)]),
+    (LENGTH, "LENGTH", &[At(8, 0), At(9, 0)]),
+    (PACKED, "PACKED", &[At(2, 0)]),
+    (SATELLITE_FIELD, "satellite", &[At(1, 0)]),
+    (AREA_FIELD, "area", &[At(1, 0)]),
+    (TIMELINE_FIELD, "timeline", &[At(1, 0)]),
+    (SIZE_FIELD, "columns or lines", &[At(2, 0)]),
+    (COMPRESSION_FIELD, "compression flag", &[At(2, 0)]),
+    (BAND_FIELD, "band", &[At(5, 0)]),
+    (BITS_FIELD, "valid bits", &[At(5, 0)]),
+    (SEGMENT_FIELD, "segment", &[At(7, 0)]),
+    (NAME, "NAME", &[At(1, 0)]),
+    (ROOM, "ROOM", &[At(0, 0)]),
 ];

@@ -1,11 +1,13 @@
-//! A second opinion on which satellite files are accepted, what their quality flag says, which headers
-//! are read and written, what frames show and which reels are opened and written, from documents 01 and
-//! 02 alone, and the inputs on which it is compared with the proved library.
+//! A second opinion on which satellite files are accepted and which field of the others is at fault, what
+//! their quality flag says, which headers are read and written, what frames show, which number a shot has
+//! on the film and which reels are opened and written, from documents 01 and 02 alone, and the inputs on
+//! which it is compared with the proved library.
 
 pub mod accept;
 pub mod assemble;
 pub mod breach;
 pub mod damage;
+pub mod film;
 pub mod histories;
 pub mod images;
 pub mod lists;
@@ -20,5 +22,5 @@ pub mod takes;
 pub mod tally;
 pub mod values;
 
-pub use accept::{accept, Facts, Refusal};
+pub use accept::{accept, numbers, Answer, Facts, Refusal, FINE};
 pub use values::Values;

@@ -6,7 +6,7 @@ use crate::make::{Recipe, Sample, BASE};
 use crate::mix::{setting, small_case, REFUSALS};
 use crate::random::Random;
 use crate::reel::{self, MOST_FILES, REEL};
-use crate::tally::Row;
+use crate::tally::{Place::At, Row};
 
 pub struct Lists {
     pub seed: u64,
@@ -356,10 +356,10 @@ fn few_bytes(random: &mut Random) -> Vec<u8> {
     bytes
 }
 
-/// Every refusal of a list that is written, with the blocks that it can name.
-pub const WRITING: [Row; 14] = {
-    let mut rows: [Row; 14] = [(ROOM, "ROOM", &[0]); 14];
-    rows[0] = (REEL, "REEL", &[0]);
+/// Every refusal of a list that is written, with the places that it can name: a file's own, from its own start.
+pub const WRITING: [Row; 21] = {
+    let mut rows: [Row; 21] = [(ROOM, "ROOM", &[At(0, 0)]); 21];
+    rows[0] = (REEL, "REEL", &[At(0, 0)]);
     let mut row = 0;
     while row < REFUSALS.len() {
         rows[1 + row] = REFUSALS[row];
@@ -370,5 +370,5 @@ pub const WRITING: [Row; 14] = {
 
 /// And of a reel that is opened: all of them but ROOM, the last.
 pub fn opening() -> &'static [Row] {
-    &WRITING[..13]
+    &WRITING[..20]
 }

@@ -2,12 +2,15 @@
 //! that they can lead to.
 
 use crate::accept::{
-    CUT, DATA_SUM, FIELD, FIXED, HEADER_SUM, LENGTH, NAME, NUMBER, ORDER, PACKED, SHORT, TAIL,
+    AREA_FIELD, BAND_FIELD, BITS_FIELD, COMPRESSION_FIELD, CUT, DATA_SUM, FIXED, HEADER_SUM,
+    LENGTH, NAME, NUMBER, ORDER, PACKED, SATELLITE_FIELD, SEGMENT_FIELD, SHORT, SIZE_FIELD, TAIL,
+    TIMELINE_FIELD,
 };
 use crate::breach::{self, Breach};
 use crate::damage;
 use crate::make::{Recipe, Sample};
 use crate::random::Random;
+use crate::tally::Place::{self, At, From};
 use crate::tally::Row;
 
 /// How many inputs of each size there are. The small ones come first; every two breaches of the
@@ -33,7 +36,7 @@ impl Plan {
             small: setting("MIX_SMALL", small),
             large: 600,
             segments: 12,
-            breaches: breach::breaches(),
+            breaches: breach::breaches(&breach::recipe(0)),
         }
     }
 
@@ -175,18 +178,63 @@ fn segment_case(choice: u64, random: &mut Random) -> Case {
     Case { kind, bytes }
 }
 
-/// Every refusal of a file with the blocks that it can name.
-pub const REFUSALS: [Row; 12] = [
-    (SHORT, "SHORT", &[1, 2, 3, 4, 5, 6, 7, 8, 9, 10, 11]),
-    (NUMBER, "NUMBER", &[1, 2, 3, 4, 5, 6, 7, 8, 9, 10, 11]),
-    (ORDER, "ORDER", &[1]),
-    (LENGTH, "LENGTH", &[1, 2, 3, 4, 5, 6, 7, 8, 9, 10, 11]),
-    (FIXED, "FIXED", &[1, 2, 5]),
-    (PACKED, "PACKED", &[2]),
-    (FIELD, "FIELD", &[1, 2, 5, 7]),
-    (HEADER_SUM, "HEADER SUM", &[1]),
-    (DATA_SUM, "DATA SUM", &[1]),
-    (NAME, "NAME", &[1]),
-    (CUT, "CUT", &[12]),
-    (TAIL, "TAIL", &[12]),
+/// Where blocks 1 to 11 begin.
+const BEGINNINGS: [Place; 11] = [
+    At(1, 0),
+    At(2, 282),
+    At(3, 332),
+    At(4, 459),
+    At(5, 598),
+    At(6, 745),
+    At(7, 1_004),
+    At(8, 1_051),
+    From(9, 1_112),
+    From(10, 1_157),
+    From(11, 1_204),
+];
+
+/// Where their lengths stand.
+const LENGTHS: [Place; 11] = [
+    At(1, 1),
+    At(2, 283),
+    At(3, 333),
+    At(4, 460),
+    At(5, 599),
+    At(6, 746),
+    At(7, 1_005),
+    At(8, 1_052),
+    From(9, 1_113),
+    From(10, 1_158),
+    From(11, 1_205),
+];
+
+/// Every refusal of a file with the places that it can name.
+pub const REFUSALS: [Row; 19] = [
+    (SHORT, "SHORT", &BEGINNINGS),
+    (NUMBER, "NUMBER", &BEGINNINGS),
+    (ORDER, "ORDER", &[At(1, 5)]),
+    (LENGTH, "LENGTH", &LENGTHS),
+    (
+        FIXED,
+        "FIXED",
+        &[At(1, 3), At(2, 285), At(5, 613), At(5, 615)],
+    ),
+    (PACKED, "PACKED", &[At(2, 291)]),
+    (SATELLITE_FIELD, "satellite", &[At(1, 6)]),
+    (AREA_FIELD, "area", &[At(1, 38)]),
+    (TIMELINE_FIELD, "timeline", &[At(1, 44)]),
+    (SIZE_FIELD, "columns or lines", &[At(2, 287), At(2, 289)]),
+    (COMPRESSION_FIELD, "compression flag", &[At(2, 291)]),
+    (BAND_FIELD, "band", &[At(5, 601)]),
+    (BITS_FIELD, "valid bits", &[At(5, 611)]),
+    (
+        SEGMENT_FIELD,
+        "segment",
+        &[At(7, 1_007), At(7, 1_008), At(7, 1_009)],
+    ),
+    (HEADER_SUM, "HEADER SUM", &[At(1, 70)]),
+    (DATA_SUM, "DATA SUM", &[At(1, 74)]),
+    (NAME, "NAME", &[At(1, 114)]),
+    (CUT, "CUT", &[From(12, 1_463)]),
+    (TAIL, "TAIL", &[From(12, 1_463)]),
 ];

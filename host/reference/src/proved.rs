@@ -1,19 +1,21 @@
-//! The proved library's acceptance, marks, assembly and reels, asked over the bridge, and the comparison of
-//! an acceptance with the reference's.
+//! The proved library's acceptance, marks, film frame numbers, assembly and reels, asked over the bridge, and the
+//! comparison of an acceptance with the reference's.
 
 use std::io::{self, BufReader, BufWriter, Read, Write};
 use std::process::{Child, ChildStdin, ChildStdout, Command, Stdio};
 
-use crate::accept::{Facts, Refusal};
+use crate::accept::{numbers, Answer, Facts, Refusal};
 use crate::histories::History;
 
-/// What `hsd_accept` gives back. 0 is accepted; on a refusal everything but refusal and block is 0.
+/// What `hsd_accept` gives back. 0 is accepted, with the offset 0; on a refusal everything but refusal, block and offset
+/// is 0.
 #[derive(Debug)]
 pub struct HsdFile {
     pub refusal: u8,
     pub block: u8,
     pub satellite: u8,
     pub quality: u8,
+    pub offset: u32,
     pub day: u32,
     pub timeline: u16,
     pub band: u16,
@@ -119,6 +121,13 @@ impl Requests {
         self.question(5, &[&files.to_le_bytes()])
     }
 
+    /// Asks for the number of a shot, day and timeline, on the film of a first one, question 6.
+    pub fn ask_frame_number(&mut self, first: (u32, u16), shot: (u32, u16)) -> io::Result<()> {
+        let numbers = [first.0, u32::from(first.1), shot.0, u32::from(shot.1)];
+        let numbers = numbers.map(|number| u64::from(number).to_le_bytes());
+        self.question(6, &[&numbers.concat()])
+    }
+
     fn ask_writer(
         &mut self,
         question: u64,
@@ -148,74 +157,67 @@ impl Requests {
 
 impl Answers {
     pub fn next_file(&mut self) -> io::Result<HsdFile> {
-        let mut b = [0; 48];
-        self.from.read_exact(&mut b)?;
+        let b: [u8; 56] = self.next_bytes()?;
         Ok(HsdFile {
             refusal: b[0],
             block: b[1],
             satellite: b[2],
             quality: b[3],
-            day: four(&b, 4),
-            timeline: two(&b, 8),
-            band: two(&b, 10),
-            area: four(&b, 12),
-            columns: two(&b, 16),
-            lines: two(&b, 18),
-            number: b[20],
-            total: b[21],
-            first_line: two(&b, 22),
-            valid_bits: two(&b, 24),
-            order: b[26],
-            header_length: four(&b, 28),
-            gain: double(&b, 32),
-            constant: double(&b, 40),
+            offset: four(&b, 4),
+            day: four(&b, 8),
+            timeline: two(&b, 12),
+            band: two(&b, 14),
+            area: four(&b, 16),
+            columns: two(&b, 20),
+            lines: two(&b, 22),
+            number: b[24],
+            total: b[25],
+            first_line: two(&b, 26),
+            valid_bits: two(&b, 28),
+            order: b[30],
+            header_length: four(&b, 32),
+            gain: f64::from_bits(eight(&b, 40)),
+            constant: f64::from_bits(eight(&b, 48)),
         })
     }
 
     pub fn next_time(&mut self) -> io::Result<f64> {
-        let mut b = [0; 8];
-        self.from.read_exact(&mut b)?;
-        Ok(f64::from_le_bytes(b))
+        Ok(f64::from_le_bytes(self.next_bytes()?))
     }
 
     /// The members of an `HsdQuality`, in order.
     pub fn next_quality(&mut self) -> io::Result<[u8; 8]> {
-        let mut b = [0; 8];
-        self.from.read_exact(&mut b)?;
-        Ok(b)
+        self.next_bytes()
     }
 
-    /// The members of an `HsdReel`: refusal, block and number of files.
-    pub fn next_reel_open(&mut self) -> io::Result<(u8, u8, u16)> {
-        let mut b = [0; 4];
-        self.from.read_exact(&mut b)?;
-        Ok((b[0], b[1], u16::from_le_bytes([b[2], b[3]])))
+    /// The members of an `HsdReel`: refusal, block and offset, and the number of files.
+    pub fn next_reel_open(&mut self) -> io::Result<(Answer, u16)> {
+        let b: [u8; 8] = self.next_bytes()?;
+        Ok(((b[0], b[1], four(&b, 4)), two(&b, 2)))
     }
 
     /// The members of an `HsdPart`: offset and length.
     pub fn next_reel_part(&mut self) -> io::Result<(u32, u32)> {
-        let mut b = [0; 8];
-        self.from.read_exact(&mut b)?;
-        let [o0, o1, o2, o3, l0, l1, l2, l3] = b;
-        Ok((
-            u32::from_le_bytes([o0, o1, o2, o3]),
-            u32::from_le_bytes([l0, l1, l2, l3]),
-        ))
+        let b: [u8; 8] = self.next_bytes()?;
+        Ok((four(&b, 0), four(&b, 4)))
     }
 
-    /// Refusal and block of a reel or a trailer that was asked to be written, and the whole output of so many bytes.
-    pub fn next_reel_output(&mut self, room: usize) -> io::Result<((u8, u8), Vec<u8>)> {
-        let mut answer = [0; 2];
-        self.from.read_exact(&mut answer)?;
+    /// The answer to a reel or a trailer that was asked to be written, and the whole output of so many bytes.
+    pub fn next_reel_output(&mut self, room: usize) -> io::Result<(Answer, Vec<u8>)> {
+        let b: [u8; 6] = self.next_bytes()?;
         let mut out = vec![0; room];
         self.from.read_exact(&mut out)?;
-        Ok(((answer[0], answer[1]), out))
+        Ok(((b[0], b[1], four(&b, 2)), out))
     }
 
     pub fn next_reel_trailer(&mut self) -> io::Result<u64> {
-        let mut b = [0; 8];
-        self.from.read_exact(&mut b)?;
-        Ok(u64::from_le_bytes(b))
+        Ok(u64::from_le_bytes(self.next_bytes()?))
+    }
+
+    /// The members of an `HsdFrameNumber`: refusal, block and offset, and the number.
+    pub fn next_frame_number(&mut self) -> io::Result<(Answer, i64)> {
+        let b: [u8; 16] = self.next_bytes()?;
+        Ok(((b[0], b[1], four(&b, 4)), eight(&b, 8) as i64))
     }
 
     /// So many bytes of a history's answer.
@@ -223,6 +225,12 @@ impl Answers {
         let mut given = vec![0; length];
         self.from.read_exact(&mut given)?;
         Ok(given)
+    }
+
+    fn next_bytes<const LENGTH: usize>(&mut self) -> io::Result<[u8; LENGTH]> {
+        let mut bytes = [0; LENGTH];
+        self.from.read_exact(&mut bytes)?;
+        Ok(bytes)
     }
 
     /// Whether the bridge ended well and had nothing more to say.
@@ -234,32 +242,30 @@ impl Answers {
     }
 }
 
-fn two(b: &[u8; 48], at: usize) -> u16 {
+fn two(b: &[u8], at: usize) -> u16 {
     u16::from_le_bytes([b[at], b[at + 1]])
 }
 
-fn four(b: &[u8; 48], at: usize) -> u32 {
-    u32::from_le_bytes([b[at], b[at + 1], b[at + 2], b[at + 3]])
+fn four(b: &[u8], at: usize) -> u32 {
+    u32::from(two(b, at)) | u32::from(two(b, at + 2)) << 16
 }
 
-fn double(b: &[u8; 48], at: usize) -> f64 {
-    f64::from_bits(u64::from(four(b, at)) | u64::from(four(b, at + 4)) << 32)
+fn eight(b: &[u8], at: usize) -> u64 {
+    u64::from(four(b, at)) | u64::from(four(b, at + 4)) << 32
+}
+
+/// Refusal and block, a byte each, and the offset, four bytes with the lowest first: as the bridge and the program
+/// `rewrite` tell an answer.
+pub fn six_bytes(answer: Answer) -> [u8; 6] {
+    let (refusal, block, offset) = answer;
+    let [o0, o1, o2, o3] = offset.to_le_bytes();
+    [refusal, block, o0, o1, o2, o3]
 }
 
 /// Whether the proved answer is the one that the reference expects.
 pub fn agrees(expected: &Result<Facts, Refusal>, given: &HsdFile) -> bool {
-    let (refusal, facts) = match expected {
-        Ok(facts) => (
-            Refusal {
-                number: 0,
-                block: 0,
-            },
-            facts,
-        ),
-        Err(refusal) => (*refusal, &NO_FACTS),
-    };
-    given.refusal == refusal.number
-        && given.block == refusal.block
+    let facts = expected.as_ref().unwrap_or(&NO_FACTS);
+    (given.refusal, given.block, given.offset) == numbers(expected)
         && given.satellite == facts.satellite
         && given.quality == facts.quality
         && given.day == facts.day

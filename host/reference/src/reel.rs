@@ -17,6 +17,7 @@ const BASE: usize = 9;
 const NO_REEL: Refusal = Refusal {
     number: REEL,
     block: 0,
+    offset: 0,
 };
 
 /// How many bytes a trailer of so many files has; 0 if no reel has so many.
@@ -67,7 +68,7 @@ fn lengths_in(trailer: &[u8]) -> Vec<u32> {
     entries.map(|entry| four(entry, 4)).collect()
 }
 
-/// The first file that is not accepted answers. The lengths add up to the bytes.
+/// The first file that is not accepted answers, with an offset from its own start. The lengths add up to the bytes.
 fn judge(files: &[u8], lengths: &[u32]) -> Result<(), Refusal> {
     let mut rest = files;
     for &length in lengths {

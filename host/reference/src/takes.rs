@@ -1,14 +1,15 @@
 //! The histories on which frames are tried, each made from a seed and its number: small frames with
 //! good, strange, repeated and damaged files, some files in every order, and one full disk.
 
-use crate::accept::{accept, day_of_date};
-use crate::assemble::{Slate, MARKS};
+use crate::accept::{accept, day_of_date, Refusal};
+use crate::assemble::{Slate, ALREADY, MARKS, OTHER_SHOT, SLATE, STRIP};
 use crate::breach;
 use crate::damage;
 use crate::histories::{History, Played, Stage, Step, Told};
 use crate::make::{Recipe, Sample};
-use crate::mix::setting;
+use crate::mix::{setting, REFUSALS};
 use crate::random::Random;
+use crate::tally::{Place::At, Row};
 
 /// How many histories of each kind there are; the full disk comes last.
 pub struct Takes {
@@ -160,7 +161,7 @@ fn any_file(shot: &Recipe, good: &[Sample], random: &mut Random) -> Sample {
         }
         6..=11 => damage::any(&mut sample, random),
         12..=14 => {
-            let breaches = breach::breaches();
+            let breaches = breach::breaches(&sample.recipe);
             breaches[random.below(breaches.len() as u64) as usize].apply(&mut sample);
         }
         _ => damage::cut(&mut sample, random),
@@ -402,8 +403,8 @@ pub fn check_orders(history: &History, played: &Played) -> Ordered {
 }
 
 /// Every file's answer, and the stage after the last one.
-fn end(order: &[u16], told: &[Told]) -> (Vec<(u8, u8)>, Stage) {
-    let mut answers = vec![(0, 0); order.len()];
+fn end(order: &[u16], told: &[Told]) -> (Vec<Result<(), Refusal>>, Stage) {
+    let mut answers = vec![Ok(()); order.len()];
     let mut last = None;
     for (file, told) in order.iter().zip(&told[1..]) {
         if let Told::Answer(answer, stage) = told {
@@ -471,4 +472,23 @@ fn full_disk(random: &mut Random) -> History {
         files,
         steps,
     }
+}
+
+/// Every refusal of a file that is offered, with the places that it can name.
+pub const OFFERING: [Row; 23] = {
+    let mut rows: [Row; 23] = [(SLATE, "SLATE", &[At(0, 0)]); 23];
+    rows[1] = (STRIP, "STRIP", &[At(0, 0)]);
+    let mut row = 0;
+    while row < REFUSALS.len() {
+        rows[2 + row] = REFUSALS[row];
+        row += 1;
+    }
+    rows[21] = (OTHER_SHOT, "OTHER SHOT", &[At(0, 0)]);
+    rows[22] = (ALREADY, "ALREADY", &[At(0, 0)]);
+    rows
+};
+
+/// And of a frame that is opened: the first two.
+pub fn opening() -> &'static [Row] {
+    &OFFERING[..2]
 }

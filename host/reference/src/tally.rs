@@ -2,10 +2,31 @@
 
 use std::collections::BTreeMap;
 
-use crate::accept::Refusal;
+use crate::accept::{numbers, Answer, Refusal, FINE};
+use Place::{At, From};
 
-/// A refusal's number and name, and the blocks that it can name.
-pub type Row = (u8, &'static str, &'static [u8]);
+/// A block, and where the field that a refusal concerns stands in a file.
+#[derive(Clone, Copy)]
+pub enum Place {
+    At(u8, u32),
+    /// Behind the entries of blocks before it: this is where it stands in a file without any.
+    From(u8, u32),
+}
+
+impl Place {
+    fn is(self, block: u8, offset: u32) -> bool {
+        match self {
+            At(its, place) => block == its && offset == place,
+            // an entry has 10 bytes or 4
+            From(its, first) => {
+                block == its && offset >= first && (offset - first).is_multiple_of(2)
+            }
+        }
+    }
+}
+
+/// A refusal's number and name, and the places that it can name.
+pub type Row = (u8, &'static str, &'static [Place]);
 
 pub struct Tally {
     /// What is said of an input that is not refused.
@@ -13,7 +34,7 @@ pub struct Tally {
     table: &'static [Row],
     kinds: BTreeMap<&'static str, u64>,
     good: u64,
-    refused: BTreeMap<(u8, u8), u64>,
+    refused: BTreeMap<Answer, u64>,
 }
 
 impl Tally {
@@ -29,25 +50,24 @@ impl Tally {
 
     pub fn count<T>(&mut self, kind: &'static str, answer: &Result<T, Refusal>) {
         *self.kinds.entry(kind).or_default() += 1;
-        match answer {
-            Ok(_) => self.good += 1,
-            Err(refusal) => {
-                *self
-                    .refused
-                    .entry((refusal.number, refusal.block))
-                    .or_default() += 1
-            }
+        match numbers(answer) {
+            FINE => self.good += 1,
+            refused => *self.refused.entry(refused).or_default() += 1,
         }
     }
 
-    fn refusals(&self, number: u8, block: u8) -> u64 {
-        self.refused.get(&(number, block)).copied().unwrap_or(0)
+    /// How often a refusal named the place, and how many offsets it had there.
+    fn refusals(&self, number: u8, place: Place) -> (u64, usize) {
+        let all = self.refused.iter();
+        let here = all.filter(|((its, block, at), _)| *its == number && place.is(*block, *at));
+        let times: Vec<u64> = here.map(|(_, times)| *times).collect();
+        (times.iter().sum(), times.len())
     }
 
-    fn in_all(&self, number: u8, blocks: &[u8]) -> u64 {
-        blocks
+    fn in_all(&self, number: u8, places: &[Place]) -> u64 {
+        places
             .iter()
-            .map(|&block| self.refusals(number, block))
+            .map(|&place| self.refusals(number, place).0)
             .sum()
     }
 
@@ -56,18 +76,27 @@ impl Tally {
             println!("{times:>9}  {kind}");
         }
         println!("{:>9}  {}", self.good, self.done);
-        for &(number, name, blocks) in self.table {
-            let all = self.in_all(number, blocks);
-            print!("{all:>9}  {number} {name}, by block:");
-            for &block in blocks {
-                print!(" {block}: {}", self.refusals(number, block));
+        for &(number, name, places) in self.table {
+            let all = self.in_all(number, places);
+            print!("{all:>9}  {number} {name}, by block and byte:");
+            for &place in places {
+                let (times, offsets) = self.refusals(number, place);
+                match place {
+                    At(block, offset) => print!(" {block}, {offset}: {times};"),
+                    From(block, first) => {
+                        print!(" {block}, {first} and on: {times} at {offsets} bytes;")
+                    }
+                }
             }
             println!();
         }
+        let answers = self.refused.len();
+        println!("{answers:>9}  refusals that differ in number, block or byte");
     }
 
-    /// No answer that can be given may be missing or rare, and no other may be given.
-    pub fn check(&self, least_good: u64, least: u64, least_by_block: u64) {
+    /// No answer that can be given may be missing or rare, and no other may be given. Where a place moves with the
+    /// entries, it must have moved.
+    pub fn check(&self, least_good: u64, least: u64, least_by_place: u64) {
         assert!(
             self.good >= least_good,
             "only {} were {}",
@@ -75,15 +104,20 @@ impl Tally {
             self.done
         );
         let mut listed = 0;
-        for &(number, name, blocks) in self.table {
-            for &block in blocks {
-                let times = self.refusals(number, block);
+        for &(number, name, places) in self.table {
+            for &place in places {
+                let (times, offsets) = self.refusals(number, place);
+                let (At(block, byte) | From(block, byte)) = place;
                 assert!(
-                    times >= least_by_block,
-                    "{name} in block {block} came only {times} times"
+                    times >= least_by_place,
+                    "{name} in block {block}, byte {byte}, came only {times} times"
+                );
+                assert!(
+                    matches!(place, At(..)) || offsets >= 2 || least_by_place == 0,
+                    "{name} in block {block} came at {offsets} bytes"
                 );
             }
-            let all = self.in_all(number, blocks);
+            let all = self.in_all(number, places);
             assert!(all >= least, "{name} came only {all} times");
             listed += all;
         }

@@ -2,8 +2,9 @@
 //! paragraph on the writer, and the bytes that it writes.
 
 use crate::accept::{
-    day_of_name, demand, is_area, valid_bits_of_band, Refusal, Shot, FIELD, LENGTH, NAME, ORDER,
-    PACKED, ROOM,
+    day_of_name, demand, is_area, valid_bits_of_band, Refusal, Shot, AREA_FIELD, BAND_FIELD,
+    BITS_FIELD, COMPRESSION_FIELD, LENGTH, NAME, ORDER, PACKED, ROOM, SATELLITE_FIELD,
+    SEGMENT_FIELD, SIZE_FIELD, TIMELINE_FIELD,
 };
 
 /// Every value of a header that is not derived. Numbers follow the byte order, runs of bytes do
@@ -154,33 +155,34 @@ impl Values {
             + 4 * self.error_lines.len() as u64
     }
 
-    /// Block by block, and the name after all blocks.
+    /// Block by block, and the name after all blocks. The values come from no file, so no refusal has a place.
     fn check(&self) -> Result<(), Refusal> {
         demand(self.order <= 1, ORDER, 1)?;
-        demand(self.satellite_number().is_some(), FIELD, 1)?;
-        demand(is_area(&self.area), FIELD, 1)?;
-        demand(self.timeline <= 2_359, FIELD, 1)?;
+        demand(self.satellite_number().is_some(), SATELLITE_FIELD, 1)?;
+        demand(is_area(&self.area), AREA_FIELD, 1)?;
+        demand(self.timeline <= 2_359, TIMELINE_FIELD, 1)?;
         demand(
             matches!(self.timeline % 100, 0 | 10 | 20 | 30 | 40 | 50),
-            FIELD,
+            TIMELINE_FIELD,
             1,
         )?;
 
         demand(!matches!(self.flag, 1 | 2), PACKED, 2)?;
-        demand(matches!(self.columns, 1..=22_000), FIELD, 2)?;
-        demand(matches!(self.lines, 1..=22_000), FIELD, 2)?;
-        demand(self.flag == 0, FIELD, 2)?;
+        demand(matches!(self.columns, 1..=22_000), SIZE_FIELD, 2)?;
+        demand(matches!(self.lines, 1..=22_000), SIZE_FIELD, 2)?;
+        demand(self.flag == 0, COMPRESSION_FIELD, 2)?;
 
-        demand(matches!(self.band, 1..=16), FIELD, 5)?;
+        demand(matches!(self.band, 1..=16), BAND_FIELD, 5)?;
         let right_bits = valid_bits_of_band(u64::from(self.band));
-        demand(u64::from(self.valid_bits) == right_bits, FIELD, 5)?;
+        demand(u64::from(self.valid_bits) == right_bits, BITS_FIELD, 5)?;
 
-        demand(matches!(self.total, 1..=99), FIELD, 7)?;
-        demand(self.number >= 1 && self.number <= self.total, FIELD, 7)?;
-        demand(self.first_line >= 1, FIELD, 7)?;
+        demand(matches!(self.total, 1..=99), SEGMENT_FIELD, 7)?;
+        let counted = self.number >= 1 && self.number <= self.total;
+        demand(counted, SEGMENT_FIELD, 7)?;
+        demand(self.first_line >= 1, SEGMENT_FIELD, 7)?;
         // Widened, or large numbers could wrap around into the range.
         let line_after = u32::from(self.first_line) + u32::from(self.lines);
-        demand(line_after <= 22_001, FIELD, 7)?;
+        demand(line_after <= 22_001, SEGMENT_FIELD, 7)?;
 
         let a = self.shifted_lines.len();
         demand(a <= 6_547, LENGTH, 8)?;

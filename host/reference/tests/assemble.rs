@@ -4,7 +4,7 @@ use reference::assemble::{line, offer, open, Record, Slate, MARKS, OUTSIDE};
 use reference::make::{Recipe, Sample};
 use reference::random::Random;
 use reference::takes::{check_orders, Takes};
-use reference::Refusal;
+use reference::{numbers, Answer, FINE};
 
 const SLATE: Slate = Slate {
     satellite: 8,
@@ -33,13 +33,6 @@ fn file(recipe: &Recipe) -> Vec<u8> {
         sample.put(12, 2 * place, 2, 1_000 * recipe.number + place as u64);
     }
     sample.bytes
-}
-
-fn numbers<T>(answer: Result<T, Refusal>) -> (u8, u8) {
-    match answer {
-        Ok(_) => (0, 0),
-        Err(refusal) => (refusal.number, refusal.block),
-    }
 }
 
 fn record(marked: &[usize]) -> Record {
@@ -85,9 +78,9 @@ fn opening_fills_the_frame() {
 fn opening_checks_the_slate_and_then_the_frame() {
     let bad = Slate { band: 0, ..SLATE };
     let mut frame = [7; 24];
-    assert_eq!(numbers(open(&bad, &mut frame[..23])), (13, 0));
-    assert_eq!(numbers(open(&SLATE, &mut frame[..23])), (14, 0));
-    assert_eq!(numbers(open(&SLATE, &mut [7; 25])), (14, 0));
+    assert_eq!(numbers(&open(&bad, &mut frame[..23])), (13, 0, 0));
+    assert_eq!(numbers(&open(&SLATE, &mut frame[..23])), (14, 0, 0));
+    assert_eq!(numbers(&open(&SLATE, &mut [7; 25])), (14, 0, 0));
     assert_eq!(frame, [7; 24]);
 }
 
@@ -109,11 +102,11 @@ fn placing_writes_the_segments_lines_and_marks_its_number() {
 }
 
 /// The answer to a file, where a refusal must leave everything as it was.
-fn answer(slate: &Slate, marked: &[usize], size: usize, file: &[u8]) -> (u8, u8) {
+fn answer(slate: &Slate, marked: &[usize], size: usize, file: &[u8]) -> Answer {
     let mut frame = vec![7; size];
     let mut now = record(marked);
-    let answer = numbers(offer(slate, &mut now, &mut frame, file));
-    if answer != (0, 0) {
+    let answer = numbers(&offer(slate, &mut now, &mut frame, file));
+    if answer != FINE {
         assert_eq!(now, record(marked));
         assert_eq!(frame, vec![7; size]);
     }
@@ -129,15 +122,15 @@ fn offering_checks_in_the_papers_order() {
         timeline: 210,
         ..recipe(2)
     });
-    assert_eq!(answer(&bad, &[], 23, cut), (13, 0));
-    assert_eq!(answer(&SLATE, &[4], 23, cut), (13, 0));
-    assert_eq!(answer(&SLATE, &[99], 23, cut), (13, 0));
-    assert_eq!(answer(&SLATE, &[2], 23, cut), (14, 0));
-    assert_eq!(answer(&SLATE, &[2], 24, cut), (11, 12));
-    assert_eq!(answer(&SLATE, &[2], 24, &[]), (1, 1));
-    assert_eq!(answer(&SLATE, &[2], 24, &stray), (15, 0));
-    assert_eq!(answer(&SLATE, &[2], 24, &good), (16, 0));
-    assert_eq!(answer(&SLATE, &[1, 3], 24, &good), (0, 0));
+    assert_eq!(answer(&bad, &[], 23, cut), (13, 0, 0));
+    assert_eq!(answer(&SLATE, &[4], 23, cut), (13, 0, 0));
+    assert_eq!(answer(&SLATE, &[99], 23, cut), (13, 0, 0));
+    assert_eq!(answer(&SLATE, &[2], 23, cut), (14, 0, 0));
+    assert_eq!(answer(&SLATE, &[2], 24, cut), (11, 12, 1_463));
+    assert_eq!(answer(&SLATE, &[2], 24, &[]), (1, 1, 0));
+    assert_eq!(answer(&SLATE, &[2], 24, &stray), (15, 0, 0));
+    assert_eq!(answer(&SLATE, &[2], 24, &good), (16, 0, 0));
+    assert_eq!(answer(&SLATE, &[1, 3], 24, &good), FINE);
 }
 
 #[test]
@@ -157,7 +150,7 @@ fn a_file_matches_when_all_parts_agree() {
     for change in changes {
         let mut other = recipe(2);
         change(&mut other);
-        assert_eq!(answer(&SLATE, &[], 24, &file(&other)), (15, 0));
+        assert_eq!(answer(&SLATE, &[], 24, &file(&other)), (15, 0, 0));
     }
 }
 

@@ -3,17 +3,14 @@
 use reference::accept::{accept, Facts, CUT, DATA_SUM, LENGTH, NUMBER, SHORT, TAIL};
 use reference::make::{Recipe, Sample, BASE, GREATEST_A, GREATEST_B, GREATEST_C};
 use reference::random::Random;
+use reference::{numbers, Answer, FINE};
 
 fn make(recipe: &Recipe) -> Sample {
     Sample::make(recipe, &mut Random::new(1))
 }
 
-/// Number and block of the refusal, 0 and 0 for an accepted file.
-fn answer(file: &[u8]) -> (u8, u8) {
-    match accept(file) {
-        Ok(_) => (0, 0),
-        Err(refusal) => (refusal.number, refusal.block),
-    }
+fn answer(file: &[u8]) -> Answer {
+    numbers(&accept(file))
 }
 
 fn header_length(a: u64, b: u64, c: u64) -> u32 {
@@ -111,15 +108,15 @@ fn doubles_are_kept_as_bits() {
 
 #[test]
 fn few_bytes_are_short_whatever_they_hold() {
-    assert_eq!(answer(&[]), (SHORT, 1));
+    assert_eq!(answer(&[]), (SHORT, 1, 0));
     let good = make(&Recipe::plain()).bytes;
     let mut noise = vec![0; 281];
     Random::new(2).fill(&mut noise);
     for bytes in [&[0; 281][..], &[1; 281], &[255; 281], &noise, &good[..281]] {
-        assert_eq!(answer(bytes), (SHORT, 1));
+        assert_eq!(answer(bytes), (SHORT, 1, 0));
     }
-    assert_eq!(answer(&[0; 282]), (NUMBER, 1));
-    assert_eq!(answer(&good[..282]), (SHORT, 2));
+    assert_eq!(answer(&[0; 282]), (NUMBER, 1, 0));
+    assert_eq!(answer(&good[..282]), (SHORT, 2, 282));
 }
 
 #[test]
@@ -138,9 +135,10 @@ fn every_cut_is_short_in_its_block_or_cut() {
                     .rfind(|&block| sample.start(block) <= length)
                     .unwrap();
                 let number = if block == 12 { CUT } else { SHORT };
+                let start = sample.start(block) as u32;
                 assert_eq!(
                     answer(&sample.bytes[..length]),
-                    (number, block as u8),
+                    (number, block as u8, start),
                     "{length} bytes"
                 );
             }
@@ -153,9 +151,11 @@ fn a_wrong_number_in_a_cut_block_is_still_short() {
     for block in 1..=11 {
         let mut sample = make(&Recipe::plain());
         sample.put(block, 0, 1, 99);
-        let end = sample.start(block) + BASE[block - 1];
-        assert_eq!(answer(&sample.bytes[..end]), (NUMBER, block as u8));
-        assert_eq!(answer(&sample.bytes[..end - 1]), (SHORT, block as u8));
+        let (shown, start) = (block as u8, sample.start(block));
+        let end = start + BASE[block - 1];
+        let told = [end, end - 1].map(|end| answer(&sample.bytes[..end]));
+        let start = start as u32;
+        assert_eq!(told, [(NUMBER, shown, start), (SHORT, shown, start)]);
     }
 }
 
@@ -167,15 +167,18 @@ fn blocks_with_entries_are_short_after_their_length() {
         c: 5,
         ..Recipe::plain()
     };
-    for (block, length_width) in [(8, 2), (9, 2), (10, 4)] {
+    for (block, length_width, start) in [(8, 2, 1_051), (9, 2, 1_162), (10, 4, 1_257)] {
+        let shown = block as u8;
         let sample = make(&recipe);
         // Enough for the block without entries: its number and length are looked at.
         let file_end = sample.start(block) + BASE[block - 1];
-        assert_eq!(answer(&sample.bytes[..file_end]), (SHORT, block as u8));
+        let short = (SHORT, shown, start);
+        assert_eq!(answer(&sample.bytes[..file_end]), short);
         let mut wrong = make(&recipe);
         wrong.put(block, 1, length_width, 1);
-        assert_eq!(answer(&wrong.bytes[..file_end]), (LENGTH, block as u8));
-        assert_eq!(answer(&wrong.bytes[..file_end - 1]), (SHORT, block as u8));
+        let length = (LENGTH, shown, start + 1);
+        assert_eq!(answer(&wrong.bytes[..file_end]), length);
+        assert_eq!(answer(&wrong.bytes[..file_end - 1]), short);
     }
 }
 
@@ -191,11 +194,11 @@ fn one_byte_more_or_less() {
         })
         .bytes;
         file.push(0);
-        assert_eq!(answer(&file), (TAIL, 12));
+        assert_eq!(answer(&file), (TAIL, 12, 1_487));
         file.pop();
-        assert_eq!(answer(&file), (0, 0));
+        assert_eq!(answer(&file), FINE);
         file.pop();
-        assert_eq!(answer(&file), (CUT, 12));
+        assert_eq!(answer(&file), (CUT, 12, 1_487));
     }
 }
 
@@ -217,22 +220,30 @@ fn headers_have_the_named_lengths() {
 
 #[test]
 fn entries_beyond_two_bytes_of_length_never_fit() {
+    let refusal_8 = (LENGTH, 8, 1_052);
+    let refusal_9 = (LENGTH, 9, 1_113);
     // Every length that can be written, with the first count that no length fits.
-    for (block, offset, count) in [(8, 19, GREATEST_A + 1), (9, 3, GREATEST_B + 1)] {
+    for (block, offset, count, refusal) in [
+        (8, 19, GREATEST_A + 1, refusal_8),
+        (9, 3, GREATEST_B + 1, refusal_9),
+    ] {
         let mut sample = make(&Recipe::plain());
         sample.put(block, offset, 2, count);
         for length in 0..=65_535 {
             sample.put(block, 1, 2, length);
-            assert_eq!(answer(&sample.bytes), (LENGTH, block as u8));
+            assert_eq!(answer(&sample.bytes), refusal);
         }
     }
     // Every greater count, with the length that wraps around.
-    for (block, offset, first) in [(8, 19, GREATEST_A + 1), (9, 3, GREATEST_B + 1)] {
+    for (block, offset, first, refusal) in [
+        (8, 19, GREATEST_A + 1, refusal_8),
+        (9, 3, GREATEST_B + 1, refusal_9),
+    ] {
         let mut sample = make(&Recipe::plain());
         for count in first..=65_535 {
             sample.put(block, offset, 2, count);
             sample.put(block, 1, 2, (BASE[block - 1] as u64 + 10 * count) % 65_536);
-            assert_eq!(answer(&sample.bytes), (LENGTH, block as u8));
+            assert_eq!(answer(&sample.bytes), refusal);
         }
     }
 }
@@ -245,11 +256,11 @@ fn the_length_of_block_10_has_four_bytes() {
             c: 20_000,
             ..Recipe::plain()
         });
-        assert_eq!(answer(&sample.bytes), (0, 0));
+        assert_eq!(answer(&sample.bytes), FINE);
         sample.put(10, 1, 4, 80_047 % 65_536);
-        assert_eq!(answer(&sample.bytes), (LENGTH, 10));
+        assert_eq!(answer(&sample.bytes), (LENGTH, 10, 1_158));
         sample.put(10, 1, 4, 80_047 + (1 << 24));
-        assert_eq!(answer(&sample.bytes), (LENGTH, 10));
+        assert_eq!(answer(&sample.bytes), (LENGTH, 10, 1_158));
     }
 }
 
@@ -263,12 +274,13 @@ fn counts_beyond_sixteen_bits() {
             ..Recipe::plain()
         });
         assert_eq!(sample.bytes.len(), 1_463 + 88_000);
-        assert_eq!(answer(&sample.bytes), (0, 0));
-        assert_eq!(answer(&sample.bytes[..1_463 + 22_464]), (CUT, 12));
+        assert_eq!(answer(&sample.bytes), FINE);
+        assert_eq!(answer(&sample.bytes[..1_463 + 22_464]), (CUT, 12, 1_463));
         let mut wrapped = sample.clone();
         wrapped.put(1, 74, 4, 22_464);
-        assert_eq!(answer(&wrapped.bytes), (DATA_SUM, 1));
-        assert_eq!(answer(&wrapped.bytes[..1_463 + 22_464]), (DATA_SUM, 1));
+        assert_eq!(answer(&wrapped.bytes), (DATA_SUM, 1, 74));
+        let cut = &wrapped.bytes[..1_463 + 22_464];
+        assert_eq!(answer(cut), (DATA_SUM, 1, 74));
 
         // 2 x 16,384 x 2 is 65,536, or nothing at all.
         let mut sample = make(&Recipe {
@@ -276,10 +288,10 @@ fn counts_beyond_sixteen_bits() {
             columns: 16_384,
             ..Recipe::plain()
         });
-        assert_eq!(answer(&sample.bytes), (0, 0));
-        assert_eq!(answer(&sample.bytes[..1_463]), (CUT, 12));
+        assert_eq!(answer(&sample.bytes), FINE);
+        assert_eq!(answer(&sample.bytes[..1_463]), (CUT, 12, 1_463));
         sample.put(1, 74, 4, 0);
-        assert_eq!(answer(&sample.bytes[..1_463]), (DATA_SUM, 1));
+        assert_eq!(answer(&sample.bytes[..1_463]), (DATA_SUM, 1, 74));
     }
 }
 
@@ -289,7 +301,7 @@ fn the_greatest_picture_is_only_cut() {
     sample.put(2, 5, 2, 22_000);
     sample.put(2, 7, 2, 22_000);
     sample.put(1, 74, 4, 968_000_000);
-    assert_eq!(answer(&sample.bytes), (CUT, 12));
+    assert_eq!(answer(&sample.bytes), (CUT, 12, 1_463));
 }
 
 #[test]

@@ -10,7 +10,8 @@ use std::time::Instant;
 
 use reference::histories::{History, Played, Step, Told};
 use reference::proved::Bridge;
-use reference::takes::{check_orders, Takes, EVERY_ORDER};
+use reference::takes::{check_orders, opening, Takes, EVERY_ORDER, OFFERING};
+use reference::tally::Tally;
 
 fn main() {
     let takes = Arc::new(Takes::new(40_000, 200));
@@ -34,7 +35,7 @@ fn main() {
         requests.end().expect("the bridge reads");
     });
 
-    let mut tally = Tally::default();
+    let mut seen = Seen::new();
     for (number, (take, played)) in told.iter().enumerate() {
         let due = played.bytes();
         let given = answers.next_history(due.len()).expect("the bridge answers");
@@ -43,12 +44,12 @@ fn main() {
             print_difference(&take.history, &played, &given);
             std::process::exit(1);
         }
-        tally.count(take.kind, &take.history, &played);
+        seen.count(take.kind, &take.history, &played);
     }
     asker.join().expect("every history was asked");
     assert!(answers.ended_well(), "the bridge did not end well");
-    tally.print(began.elapsed().as_secs_f64());
-    tally.check(takes.small / 200);
+    seen.print(began.elapsed().as_secs_f64());
+    seen.check(takes.small / 200);
 }
 
 /// The first step whose answer differs, or the stage at the end.
@@ -69,10 +70,11 @@ fn print_difference(history: &History, played: &Played, given: &[u8]) {
     println!("the frame or the marks at the end differ");
 }
 
-#[derive(Default)]
-struct Tally {
+struct Seen {
     kinds: BTreeMap<&'static str, u64>,
-    answers: BTreeMap<(&'static str, u8), u64>,
+    opened: Tally,
+    offered: Tally,
+    lines: BTreeMap<&'static str, u64>,
     /// Each order of some files is a history.
     histories: u64,
     orders: u64,
@@ -81,7 +83,20 @@ struct Tally {
     agree: u64,
 }
 
-impl Tally {
+impl Seen {
+    fn new() -> Seen {
+        Seen {
+            kinds: BTreeMap::new(),
+            opened: Tally::new("opened", opening()),
+            offered: Tally::new("placed", &OFFERING),
+            lines: BTreeMap::new(),
+            histories: 0,
+            orders: 0,
+            apart: 0,
+            agree: 0,
+        }
+    }
+
     fn count(&mut self, kind: &'static str, history: &History, played: &Played) {
         *self.kinds.entry(kind).or_default() += 1;
         if kind == EVERY_ORDER {
@@ -97,19 +112,14 @@ impl Tally {
             self.histories += 1;
         }
         for (step, told) in history.steps.iter().zip(&played.told) {
-            let answer = match (step, told) {
-                (Step::Open, Told::Answer((refusal, _), _)) => ("opened", *refusal),
-                (_, Told::Answer((refusal, _), _)) => ("offered", *refusal),
-                (_, Told::Line(0, _)) => ("no line", 0),
+            match (step, told) {
+                (Step::Open, Told::Answer(answer, _)) => self.opened.count("openings", answer),
+                (_, Told::Answer(answer, _)) => self.offered.count("offers", answer),
                 (_, Told::Line(counts, out)) => {
-                    let counts = *counts as usize;
-                    match history.leader.get(..counts) {
-                        Some(leader) if leader == &out[..counts] => ("leader", 0),
-                        _ => ("line of the frame", 0),
-                    }
+                    let whose = whose_line(history, &out[..*counts as usize]);
+                    *self.lines.entry(whose).or_default() += 1;
                 }
-            };
-            *self.answers.entry(answer).or_default() += 1;
+            }
         }
     }
 
@@ -121,23 +131,29 @@ impl Tally {
             "{:>9}  orders, of {} no two matching files bear one number, and of {} such files agree",
             self.orders, self.apart, self.agree
         );
-        for ((what, refusal), times) in &self.answers {
-            println!("{times:>9}  {what}, {refusal}");
+        self.opened.print();
+        self.offered.print();
+        for (whose, times) in &self.lines {
+            println!("{times:>9}  {whose}");
         }
         println!("{} histories compared in {seconds:.1} s", self.histories);
     }
 
     /// No answer that can be given may be missing or rare, and no other may be given.
     fn check(&self, least: u64) {
-        let mut listed = vec![("opened", 0), ("opened", 13), ("opened", 14)];
-        listed.extend((0..=16).map(|refusal| ("offered", refusal)));
-        listed.extend([("no line", 0), ("leader", 0), ("line of the frame", 0)]);
-        for answer in &listed {
-            let times = self.answers.get(answer).copied().unwrap_or(0);
-            assert!(times >= least, "{answer:?} came only {times} times");
-        }
-        assert_eq!(listed.len(), self.answers.len(), "{:?}", self.answers);
+        self.opened.check(least, least, least);
+        self.offered.check(least, least, least / 10);
+        assert_eq!(self.lines.len(), 3, "{:?}", self.lines);
+        assert!(self.lines.values().all(|&times| times >= least));
         let differ = self.orders - self.apart - self.agree;
         assert!(self.apart >= 1_000 && self.agree >= 500 && differ >= 1_000);
+    }
+}
+
+fn whose_line(history: &History, line: &[u16]) -> &'static str {
+    match history.leader.get(..line.len()) {
+        _ if line.is_empty() => "no line",
+        Some(leader) if leader == line => "leader",
+        _ => "line of the frame",
     }
 }

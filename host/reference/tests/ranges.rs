@@ -3,22 +3,25 @@
 use std::collections::BTreeMap;
 
 use reference::accept::{
-    accept, DATA_SUM, FIELD, FIXED, HEADER_SUM, LENGTH, NAME, NUMBER, ORDER, PACKED,
+    accept, AREA_FIELD, BAND_FIELD, BITS_FIELD, COMPRESSION_FIELD, DATA_SUM, FIXED, HEADER_SUM,
+    LENGTH, NAME, NUMBER, ORDER, PACKED, SATELLITE_FIELD, SEGMENT_FIELD, SIZE_FIELD,
+    TIMELINE_FIELD,
 };
 use reference::make::{length_width, Recipe, Sample, BASE};
 use reference::random::Random;
+use reference::{numbers, Answer, FINE};
 
-const ACCEPTED: (u8, u8) = (0, 0);
+/// Where blocks 1 to 11 begin in a file without entries.
+const STARTS: [u32; 11] = [
+    0, 282, 332, 459, 598, 745, 1_004, 1_051, 1_112, 1_157, 1_204,
+];
 
 fn make(recipe: &Recipe) -> Sample {
     Sample::make(recipe, &mut Random::new(1))
 }
 
-fn answer(sample: &Sample) -> (u8, u8) {
-    match accept(&sample.bytes) {
-        Ok(_) => ACCEPTED,
-        Err(refusal) => (refusal.number, refusal.block),
-    }
+fn answer(sample: &Sample) -> Answer {
+    numbers(&accept(&sample.bytes))
 }
 
 /// The plain file in both byte orders.
@@ -37,13 +40,13 @@ fn try_all(
     block: usize,
     offset: usize,
     width: usize,
-    refusal: (u8, u8),
+    refusal: Answer,
     lawful: impl Fn(u64) -> bool,
 ) {
     for mut sample in both_orders() {
         for value in 0..1 << (8 * width) {
             sample.put(block, offset, width, value);
-            let expected = if lawful(value) { ACCEPTED } else { refusal };
+            let expected = if lawful(value) { FINE } else { refusal };
             assert_eq!(
                 answer(&sample),
                 expected,
@@ -56,9 +59,8 @@ fn try_all(
 #[test]
 fn block_numbers() {
     for block in 1..=11 {
-        try_all(block, 0, 1, (NUMBER, block as u8), |value| {
-            value == block as u64
-        });
+        let refusal = (NUMBER, block as u8, STARTS[block - 1]);
+        try_all(block, 0, 1, refusal, |value| value == block as u64);
     }
 }
 
@@ -67,13 +69,14 @@ fn block_lengths() {
     for block in 1..=11 {
         let base = BASE[block - 1] as u64;
         if length_width(block) == 2 {
-            try_all(block, 1, 2, (LENGTH, block as u8), |value| value == base);
+            let refusal = (LENGTH, block as u8, STARTS[block - 1] + 1);
+            try_all(block, 1, 2, refusal, |value| value == base);
         }
     }
     for mut sample in both_orders() {
         for bit in 0..32 {
             sample.put(10, 1, 4, 47 ^ (1 << bit));
-            assert_eq!(answer(&sample), (LENGTH, 10));
+            assert_eq!(answer(&sample), (LENGTH, 10, 1_158));
         }
     }
 }
@@ -84,9 +87,9 @@ fn byte_order() {
         for value in 0..=255 {
             sample.put(1, 5, 1, value);
             let expected = match value {
-                value if value == sample.recipe.order => ACCEPTED,
-                0 | 1 => (LENGTH, 1),
-                _ => (ORDER, 1),
+                value if value == sample.recipe.order => FINE,
+                0 | 1 => (LENGTH, 1, 1),
+                _ => (ORDER, 1, 5),
             };
             assert_eq!(answer(&sample), expected);
         }
@@ -95,10 +98,10 @@ fn byte_order() {
 
 #[test]
 fn fixed_values() {
-    try_all(1, 3, 2, (FIXED, 1), |value| value == 11);
-    try_all(2, 3, 2, (FIXED, 2), |value| value == 16);
-    try_all(5, 15, 2, (FIXED, 5), |value| value == 65_535);
-    try_all(5, 17, 2, (FIXED, 5), |value| value == 65_534);
+    try_all(1, 3, 2, (FIXED, 1, 3), |value| value == 11);
+    try_all(2, 3, 2, (FIXED, 2, 285), |value| value == 16);
+    try_all(5, 15, 2, (FIXED, 5, 613), |value| value == 65_535);
+    try_all(5, 17, 2, (FIXED, 5, 615), |value| value == 65_534);
 }
 
 #[test]
@@ -107,9 +110,9 @@ fn compression_flag() {
         for value in 0..=255 {
             sample.put(2, 9, 1, value);
             let expected = match value {
-                0 => ACCEPTED,
-                1 | 2 => (PACKED, 2),
-                _ => (FIELD, 2),
+                0 => FINE,
+                1 | 2 => (PACKED, 2, 291),
+                _ => (COMPRESSION_FIELD, 2, 291),
             };
             assert_eq!(answer(&sample), expected);
         }
@@ -119,15 +122,14 @@ fn compression_flag() {
 #[test]
 fn columns_and_lines() {
     // The sum stays as it was, so a lawful size gets as far as DATA SUM.
-    for offset in [5, 7] {
+    for (offset, right, place) in [(5, 4, 287), (7, 2, 289)] {
         for mut sample in both_orders() {
-            let right = if offset == 5 { 4 } else { 2 };
             for value in 0..=65_535 {
                 sample.put(2, offset, 2, value);
                 let expected = match value {
-                    value if value == right => ACCEPTED,
-                    1..=22_000 => (DATA_SUM, 1),
-                    _ => (FIELD, 2),
+                    value if value == right => FINE,
+                    1..=22_000 => (DATA_SUM, 1, 74),
+                    _ => (SIZE_FIELD, 2, place),
                 };
                 assert_eq!(answer(&sample), expected);
             }
@@ -140,7 +142,7 @@ fn columns_and_lines() {
                 lines,
                 ..Recipe::plain()
             })),
-            ACCEPTED
+            FINE
         );
     }
 }
@@ -158,11 +160,11 @@ fn satellites() {
                 sample.put(1, at, 1, value);
                 // The digit of the other satellite is in range, but the name tells another.
                 let expected = if sample.bytes == good.bytes {
-                    ACCEPTED
+                    FINE
                 } else if at == 15 && (value == u64::from(b'8') || value == u64::from(b'9')) {
-                    (NAME, 1)
+                    (NAME, 1, 114)
                 } else {
-                    (FIELD, 1)
+                    (SATELLITE_FIELD, 1, 6)
                 };
                 assert_eq!(answer(&sample), expected);
             }
@@ -176,7 +178,7 @@ fn satellites() {
         b"HIMAWARI-8\0\0\0\0\0\0",
     ] {
         sample.put_text(1, 6, text);
-        assert_eq!(answer(&sample), (FIELD, 1));
+        assert_eq!(answer(&sample), (SATELLITE_FIELD, 1, 6));
     }
 }
 
@@ -211,9 +213,9 @@ fn areas() {
             ..Recipe::plain()
         });
         let expected = if lawful.contains(&area) {
-            ACCEPTED
+            FINE
         } else {
-            (FIELD, 1)
+            (AREA_FIELD, 1, 38)
         };
         assert_eq!(answer(&sample), expected, "{}", area.escape_ascii());
     }
@@ -236,13 +238,13 @@ fn timelines() {
         }
         .name();
         if lawful.contains(&timeline) && timeline != 200 {
-            assert_eq!(answer(&sample), (NAME, 1));
+            assert_eq!(answer(&sample), (NAME, 1, 114));
         }
         sample.put_text(1, 114, &followed);
         let expected = if lawful.contains(&timeline) {
-            ACCEPTED
+            FINE
         } else {
-            (FIELD, 1)
+            (TIMELINE_FIELD, 1, 44)
         };
         assert_eq!(answer(&sample), expected, "{timeline}");
     }
@@ -264,9 +266,9 @@ fn bands_and_valid_bits() {
             for bits in (0..=300).chain(65_000..=65_535) {
                 sample.put(5, 13, 2, bits);
                 let expected = if bits == table[band as usize - 1] {
-                    ACCEPTED
+                    FINE
                 } else {
-                    (FIELD, 5)
+                    (BITS_FIELD, 5, 611)
                 };
                 assert_eq!(answer(&sample), expected, "band {band}, {bits} bits");
             }
@@ -277,7 +279,8 @@ fn bands_and_valid_bits() {
                 ..Recipe::plain()
             });
             sample.put(5, 3, 2, band);
-            assert_eq!(answer(&sample), (FIELD, 5), "band {band}");
+            let refusal = (BAND_FIELD, 5, 601);
+            assert_eq!(answer(&sample), refusal, "band {band}");
         }
     }
 }
@@ -300,8 +303,14 @@ fn segment_totals_and_numbers() {
                 }
                 .name(),
             );
-            let lawful = (1..=99).contains(&total) && (1..=total).contains(&number);
-            let expected = if lawful { ACCEPTED } else { (FIELD, 7) };
+            // A number above the total is the number's fault.
+            let expected = if !(1..=99).contains(&total) {
+                (SEGMENT_FIELD, 7, 1_007)
+            } else if !(1..=total).contains(&number) {
+                (SEGMENT_FIELD, 7, 1_008)
+            } else {
+                FINE
+            };
             assert_eq!(answer(&sample), expected, "{number} of {total}");
         }
     }
@@ -321,7 +330,8 @@ fn first_lines() {
                 sample.put(7, 5, 2, first);
                 // Counted backwards from the last line that there can be.
                 let lawful = first >= 1 && first <= 22_001 - lines;
-                let expected = if lawful { ACCEPTED } else { (FIELD, 7) };
+                let refusal = (SEGMENT_FIELD, 7, 1_009);
+                let expected = if lawful { FINE } else { refusal };
                 assert_eq!(answer(&sample), expected, "{lines} lines from {first}");
             }
         }
@@ -337,9 +347,9 @@ fn sums() {
             {
                 sample.put(1, offset, 4, value);
                 let expected = if value == right {
-                    ACCEPTED
+                    FINE
                 } else {
-                    (refusal, 1)
+                    (refusal, 1, offset as u32)
                 };
                 assert_eq!(answer(&sample), expected);
             }
@@ -367,9 +377,9 @@ fn every_letter_of_the_name() {
         for value in 0..=255 {
             sample.put(1, 114 + at, 1, value);
             let expected = if sample.bytes == good.bytes {
-                ACCEPTED
+                FINE
             } else {
-                (NAME, 1)
+                (NAME, 1, 114)
             };
             assert_eq!(answer(&sample), expected, "{value} at {at}");
         }
@@ -424,7 +434,7 @@ fn every_date() {
                 let given = accept(&sample.bytes).map(|facts| facts.day);
                 match calendar.get(&(year, month, day)) {
                     Some(count) => assert_eq!(given, Ok(*count), "{year} {month} {day}"),
-                    None => assert_eq!(answer(&sample), (NAME, 1), "{year} {month} {day}"),
+                    None => assert_eq!(answer(&sample), (NAME, 1, 114), "{year} {month} {day}"),
                 }
             }
         }
@@ -434,7 +444,7 @@ fn every_date() {
         for value in (0..=255).filter(|value| !(48..=57).contains(value)) {
             let mut sample = make(&Recipe::plain());
             sample.put(1, 114 + at, 1, value);
-            assert_eq!(answer(&sample), (NAME, 1));
+            assert_eq!(answer(&sample), (NAME, 1, 114));
         }
     }
 }
@@ -454,9 +464,9 @@ fn resolutions() {
             });
             sample.put_text(1, 114 + 31, format!("{resolution:02}").as_bytes());
             let expected = if resolution == right {
-                ACCEPTED
+                FINE
             } else {
-                (NAME, 1)
+                (NAME, 1, 114)
             };
             assert_eq!(
                 answer(&sample),
@@ -498,9 +508,9 @@ fn a_name_of_another_file() {
     ];
     let good = make(&plain);
     for other in others {
-        assert_eq!(answer(&make(&other)), ACCEPTED);
+        assert_eq!(answer(&make(&other)), FINE);
         let mut sample = good.clone();
         sample.put_text(1, 114, &other.name());
-        assert_eq!(answer(&sample), (NAME, 1), "{other:?}");
+        assert_eq!(answer(&sample), (NAME, 1, 114), "{other:?}");
     }
 }

@@ -13,16 +13,16 @@ use reference::proved::{Answers, Bridge, Requests};
 use reference::random::Random;
 use reference::reel::{open, part, seal, trailer, trailer_length, write};
 use reference::tally::Tally;
-use reference::Refusal;
+use reference::{numbers, Answer, Refusal, FINE};
 
-const FINE: (u8, u8) = (0, 0);
-const SHORT_1: (u8, u8) = (1, 1);
-const NUMBER_2: (u8, u8) = (2, 2);
-const ORDER: (u8, u8) = (3, 1);
-const CUT: (u8, u8) = (11, 12);
-const TAIL: (u8, u8) = (12, 12);
-const ROOM: (u8, u8) = (17, 0);
-const REEL: (u8, u8) = (18, 0);
+/// Of a file without entries, wherever in the reel it stands.
+const SHORT_1: Answer = (1, 1, 0);
+const NUMBER_2: Answer = (2, 2, 282);
+const ORDER: Answer = (3, 1, 5);
+const CUT: Answer = (11, 12, 1_463);
+const TAIL: Answer = (12, 12, 1_463);
+const ROOM: Answer = (17, 0, 0);
+const REEL: Answer = (18, 0, 0);
 
 /// With this an output is filled before it is written.
 const UNTOUCHED: u8 = 0xaa;
@@ -62,13 +62,6 @@ fn bad_number() -> Vec<u8> {
     file
 }
 
-fn numbers<T>(answer: &Result<T, Refusal>) -> (u8, u8) {
-    match answer {
-        Ok(_) => FINE,
-        Err(refusal) => (refusal.number, refusal.block),
-    }
-}
-
 fn lengths(files: &[Vec<u8>]) -> Vec<u32> {
     files.iter().map(|file| file.len() as u32).collect()
 }
@@ -76,14 +69,14 @@ fn lengths(files: &[Vec<u8>]) -> Vec<u32> {
 type Writer = fn(&[u8], &[u32], &mut [u8]) -> Result<(), Refusal>;
 
 /// What is answered, and the whole output of so many bytes.
-fn output(by: Writer, files: &[u8], lengths: &[u32], room: usize) -> ((u8, u8), Vec<u8>) {
+fn output(by: Writer, files: &[u8], lengths: &[u32], room: usize) -> (Answer, Vec<u8>) {
     let mut out = vec![UNTOUCHED; room];
     let answer = by(files, lengths, &mut out);
     (numbers(&answer), out)
 }
 
 /// Both writers answer this and leave their outputs as they were, although there is room for all.
-fn assert_refused(files: &[u8], lengths: &[u32], answer: (u8, u8)) {
+fn assert_refused(files: &[u8], lengths: &[u32], answer: Answer) {
     let room = files.len() + 8 * lengths.len() + 9;
     for by in [write as Writer, seal] {
         let untouched = vec![UNTOUCHED; room];
@@ -111,7 +104,7 @@ fn spelt(entries: &[u32], files: u8, offset: u32, letters: &[u8; 4]) -> Vec<u8> 
 }
 
 /// What opening these bytes with this trailer behind them answers.
-fn opened(bytes: &[u8], trailer: &[u8]) -> (u8, u8) {
+fn opened(bytes: &[u8], trailer: &[u8]) -> Answer {
     numbers(&open(&[bytes, trailer].concat()))
 }
 
@@ -730,8 +723,7 @@ fn compare(due: &Due, answers: &mut Answers) -> io::Result<Result<(), String>> {
             same(&what, length, &answers.next_reel_trailer()?)
         }
         Due::Opened(kind, answer) => {
-            let (refusal, block) = numbers(answer);
-            let told = (refusal, block, *answer.as_ref().unwrap_or(&0));
+            let told = (numbers(answer), *answer.as_ref().unwrap_or(&0));
             let what = format!("open, {kind}");
             same(&what, &told, &answers.next_reel_open()?)
         }
@@ -750,7 +742,7 @@ fn same<T: PartialEq + std::fmt::Debug>(what: &str, due: &T, given: &T) -> Resul
     }
 }
 
-fn same_output(what: &str, due: &Output, given: &((u8, u8), Vec<u8>)) -> Result<(), String> {
+fn same_output(what: &str, due: &Output, given: &(Answer, Vec<u8>)) -> Result<(), String> {
     let what = format!("{what}, {}", due.kind);
     same(&what, &numbers(&due.answer), &given.0)?;
     let mut bytes = due.out.iter().zip(&given.1).enumerate();

@@ -10,15 +10,17 @@ use std::thread;
 use std::time::Instant;
 
 use reference::images::{Asked, Images, REFUSALS};
+use reference::numbers;
+use reference::proved::six_bytes;
 use reference::readers::{verdicts, Readings};
 use reference::tally::Tally;
-use reference::Refusal;
 
 /// With this the program fills its output before it writes.
 const UNTOUCHED: u8 = 0xaa;
 
-/// Who answers first, with a refusal's number and block each; the output follows.
+/// Who answers first, with refusal, block and offset in six bytes each; the output follows.
 const WHO: [&str; 5] = ["read", "read_shifts", "read_times", "read_errors", "write"];
+const TOLD: usize = 6 * WHO.len();
 
 fn main() {
     let images = Arc::new(Images::new(120_000));
@@ -112,31 +114,26 @@ fn compare(answers: &mut impl Read, asked: &Asked) -> Result<(), String> {
 
 /// What each says, and the whole output: the header and what is behind it, or nothing touched.
 fn answer_due(asked: &Asked) -> Vec<u8> {
-    let mut due = Vec::with_capacity(2 * WHO.len() + asked.room);
+    let mut due = Vec::with_capacity(TOLD + asked.room);
     for verdict in verdicts(&asked.file, asked.entries) {
-        due.extend(number_and_block(&verdict));
+        due.extend(six_bytes(numbers(&verdict)));
     }
-    due.extend(number_and_block(&asked.written));
+    due.extend(six_bytes(numbers(&asked.written)));
     due.extend_from_slice(asked.written.as_deref().unwrap_or(&[]));
-    due.resize(2 * WHO.len() + asked.room, UNTOUCHED);
+    due.resize(TOLD + asked.room, UNTOUCHED);
     due
-}
-
-fn number_and_block<T>(answer: &Result<T, Refusal>) -> [u8; 2] {
-    match answer {
-        Ok(_) => [0, 0],
-        Err(refusal) => [refusal.number, refusal.block],
-    }
 }
 
 fn difference(due: &[u8], given: &[u8]) -> String {
     for (at, who) in WHO.iter().enumerate() {
-        let (due, given) = (&due[2 * at..][..2], &given[2 * at..][..2]);
+        let (due, given) = (&due[6 * at..][..6], &given[6 * at..][..6]);
         if due != given {
-            return format!("{who}, refusal and block: reference {due:?}, proved {given:?}");
+            return format!(
+                "{who}, refusal, block and offset's bytes: reference {due:?}, proved {given:?}"
+            );
         }
     }
-    let (due, given) = (&due[2 * WHO.len()..], &given[2 * WHO.len()..]);
+    let (due, given) = (&due[TOLD..], &given[TOLD..]);
     let at = (0..due.len()).find(|&at| due[at] != given[at]).unwrap_or(0);
     let end = due.len().min(at + 16);
     format!(

@@ -1,13 +1,16 @@
 //! The header's readers and writer: what is read from an image, what is written, and what is refused.
 
-use reference::accept::{accept, FIELD, LENGTH, NAME, ORDER, PACKED, ROOM};
+use reference::accept::{
+    accept, AREA_FIELD, BAND_FIELD, BITS_FIELD, COMPRESSION_FIELD, LENGTH, NAME, ORDER, PACKED,
+    ROOM, SATELLITE_FIELD, SEGMENT_FIELD, SIZE_FIELD, TIMELINE_FIELD,
+};
 use reference::damage;
 use reference::images::{Images, REFUSALS};
 use reference::make::{Recipe, Sample, GREATEST_A, GREATEST_B, GREATEST_C};
 use reference::random::Random;
 use reference::readers::{verdicts, Readings};
 use reference::tally::Tally;
-use reference::Values;
+use reference::{numbers, Answer, Values, FINE};
 
 fn make(recipe: &Recipe) -> Sample {
     Sample::make(recipe, &mut Random::new(1))
@@ -25,12 +28,8 @@ fn good(order: u64) -> Values {
     Values::of_image(&sample.bytes)
 }
 
-/// Number and block of the refusal, 0 and 0 for a written header.
-fn answer(values: &Values, room: usize) -> (u8, u8) {
-    match values.write(room) {
-        Ok(_) => (0, 0),
-        Err(refusal) => (refusal.number, refusal.block),
-    }
+fn answer(values: &Values, room: usize) -> Answer {
+    numbers(&values.write(room))
 }
 
 /// Now and then a file with many entries or of full size among the small ones.
@@ -220,7 +219,7 @@ fn bytes_past_the_end_are_zeros() {
     let nothing = Values::of_image(&[]);
     assert_eq!(nothing.name, [0; 128]);
     assert_eq!(nothing.header_length(), 1_463);
-    assert_eq!(answer(&nothing, 1_463), (FIELD, 1));
+    assert_eq!(answer(&nothing, 1_463), (SATELLITE_FIELD, 1, 0));
     for order in [0, 1] {
         let sample = make(&Recipe {
             order,
@@ -274,7 +273,7 @@ fn any_order_but_0_is_read_as_big_endian() {
     for order in 2..=255 {
         sample.put(1, 5, 1, order);
         let mut values = Values::of_image(&sample.bytes);
-        assert_eq!(answer(&values, 10_000), (ORDER, 1));
+        assert_eq!(answer(&values, 10_000), (ORDER, 1, 0));
         values.order = 1;
         assert!(values == big);
     }
@@ -290,51 +289,51 @@ fn the_greatest_header() {
     });
     let mut values = Values::of_image(&sample.bytes);
     assert_eq!(values.write(394_563).unwrap().len(), 394_563);
-    assert_eq!(answer(&values, 394_562), (ROOM, 0));
+    assert_eq!(answer(&values, 394_562), (ROOM, 0, 0));
     // As an image holds at most 65,535 entries of block 10, one more is only for the writer.
     values.error_lines.push(0);
     values.error_pixels.push(0);
-    assert_eq!(answer(&values, 400_000), (LENGTH, 10));
+    assert_eq!(answer(&values, 400_000), (LENGTH, 10, 0));
     values.timed_lines.push(0);
     values.line_times.push(0);
-    assert_eq!(answer(&values, 400_000), (LENGTH, 9));
+    assert_eq!(answer(&values, 400_000), (LENGTH, 9, 0));
     values.shifted_lines.push(0);
     values.column_shifts.push(0);
     values.line_shifts.push(0);
-    assert_eq!(answer(&values, 400_000), (LENGTH, 8));
+    assert_eq!(answer(&values, 400_000), (LENGTH, 8, 0));
 }
 
 type Fault = (u8, u8, fn(&mut Values));
 
-/// In the order of the checks.
+/// In the order of the checks. None has a place: these values come from no file.
 fn faults() -> Vec<Fault> {
     vec![
         (ORDER, 1, |values| values.order = 2),
         (ORDER, 1, |values| values.order = 255),
-        (FIELD, 1, |values| values.satellite[9] = b'7'),
-        (FIELD, 1, |values| values.satellite[15] = b' '),
-        (FIELD, 1, |values| values.area = *b"R421"),
-        (FIELD, 1, |values| values.timeline = 2_400),
-        (FIELD, 1, |values| values.timeline = 2_360),
-        (FIELD, 1, |values| values.timeline = 65_500),
-        (FIELD, 1, |values| values.timeline = 205),
+        (SATELLITE_FIELD, 1, |values| values.satellite[9] = b'7'),
+        (SATELLITE_FIELD, 1, |values| values.satellite[15] = b' '),
+        (AREA_FIELD, 1, |values| values.area = *b"R421"),
+        (TIMELINE_FIELD, 1, |values| values.timeline = 2_400),
+        (TIMELINE_FIELD, 1, |values| values.timeline = 2_360),
+        (TIMELINE_FIELD, 1, |values| values.timeline = 65_500),
+        (TIMELINE_FIELD, 1, |values| values.timeline = 205),
         (PACKED, 2, |values| values.flag = 1),
         (PACKED, 2, |values| values.flag = 2),
-        (FIELD, 2, |values| values.columns = 0),
-        (FIELD, 2, |values| values.columns = 22_001),
-        (FIELD, 2, |values| values.lines = 0),
-        (FIELD, 2, |values| values.lines = 22_001),
-        (FIELD, 2, |values| values.flag = 3),
-        (FIELD, 5, |values| values.band = 0),
-        (FIELD, 5, |values| values.band = 17),
-        (FIELD, 5, |values| values.valid_bits = 13),
-        (FIELD, 7, |values| values.total = 0),
-        (FIELD, 7, |values| values.total = 100),
-        (FIELD, 7, |values| values.number = 0),
-        (FIELD, 7, |values| values.number = values.total + 1),
-        (FIELD, 7, |values| values.first_line = 0),
-        (FIELD, 7, |values| values.first_line = 22_000),
-        (FIELD, 7, |values| values.first_line = 65_535),
+        (SIZE_FIELD, 2, |values| values.columns = 0),
+        (SIZE_FIELD, 2, |values| values.columns = 22_001),
+        (SIZE_FIELD, 2, |values| values.lines = 0),
+        (SIZE_FIELD, 2, |values| values.lines = 22_001),
+        (COMPRESSION_FIELD, 2, |values| values.flag = 3),
+        (BAND_FIELD, 5, |values| values.band = 0),
+        (BAND_FIELD, 5, |values| values.band = 17),
+        (BITS_FIELD, 5, |values| values.valid_bits = 13),
+        (SEGMENT_FIELD, 7, |values| values.total = 0),
+        (SEGMENT_FIELD, 7, |values| values.total = 100),
+        (SEGMENT_FIELD, 7, |values| values.number = 0),
+        (SEGMENT_FIELD, 7, |values| values.number = values.total + 1),
+        (SEGMENT_FIELD, 7, |values| values.first_line = 0),
+        (SEGMENT_FIELD, 7, |values| values.first_line = 22_000),
+        (SEGMENT_FIELD, 7, |values| values.first_line = 65_535),
         (LENGTH, 8, |values| {
             values.shifted_lines.resize(6_548, 0);
             values.column_shifts.resize(6_548, 0);
@@ -367,16 +366,16 @@ fn faults() -> Vec<Fault> {
 fn each_fault_alone() {
     for order in [0, 1] {
         let length = good(order).header_length() as usize;
-        assert_eq!(answer(&good(order), length), (0, 0));
+        assert_eq!(answer(&good(order), length), FINE);
         for room in [0, 1, 1_463, length - 1] {
-            assert_eq!(answer(&good(order), room), (ROOM, 0));
+            assert_eq!(answer(&good(order), room), (ROOM, 0, 0));
         }
         for (number, block, fault) in faults() {
             let mut values = good(order);
             fault(&mut values);
-            assert_eq!(answer(&values, 400_000), (number, block));
+            assert_eq!(answer(&values, 400_000), (number, block, 0));
             // Room is looked at last.
-            assert_eq!(answer(&values, 0), (number, block));
+            assert_eq!(answer(&values, 0), (number, block, 0));
         }
     }
 }
@@ -391,7 +390,7 @@ fn of_two_faults_the_earlier_answers() {
                 later(&mut values);
                 earlier(&mut values);
                 // Where both change one value, the earlier is the one that stands.
-                assert_eq!(answer(&values, 400_000), (*number, *block));
+                assert_eq!(answer(&values, 400_000), (*number, *block, 0));
             }
         }
     }
@@ -399,12 +398,9 @@ fn of_two_faults_the_earlier_answers() {
 
 #[test]
 fn the_readers_of_entries_ask_for_room() {
-    let read = |file: &[u8], room: usize| {
-        verdicts(&accept(file), room).map(|verdict| match verdict {
-            Ok(()) => (0, 0),
-            Err(refusal) => (refusal.number, refusal.block),
-        })
-    };
+    let read =
+        |file: &[u8], room: usize| verdicts(&accept(file), room).map(|verdict| numbers(&verdict));
+    let no_room = (ROOM, 0, 0);
     for order in [0, 1] {
         let mut file = make(&Recipe {
             order,
@@ -415,21 +411,21 @@ fn the_readers_of_entries_ask_for_room() {
         })
         .bytes;
         for room in [4, 5, 65_536] {
-            assert_eq!(read(&file, room), [(0, 0); 4]);
+            assert_eq!(read(&file, room), [FINE; 4]);
         }
-        assert_eq!(read(&file, 3), [(0, 0), (0, 0), (17, 0), (0, 0)]);
-        assert_eq!(read(&file, 2), [(0, 0), (0, 0), (17, 0), (17, 0)]);
-        assert_eq!(read(&file, 1), [(0, 0), (17, 0), (17, 0), (17, 0)]);
-        assert_eq!(read(&file, 0), [(0, 0), (17, 0), (17, 0), (17, 0)]);
+        assert_eq!(read(&file, 3), [FINE, FINE, no_room, FINE]);
+        assert_eq!(read(&file, 2), [FINE, FINE, no_room, no_room]);
+        assert_eq!(read(&file, 1), [FINE, no_room, no_room, no_room]);
+        assert_eq!(read(&file, 0), [FINE, no_room, no_room, no_room]);
         // The file's own refusal comes first.
         file.pop();
         for room in [0, 2, 65_536] {
-            assert_eq!(read(&file, room), [(11, 12); 4]);
+            assert_eq!(read(&file, room), [(11, 12, 1_535); 4]);
         }
     }
     let none = make(&Recipe::plain()).bytes;
-    assert_eq!(read(&none, 0), [(0, 0); 4]);
-    assert_eq!(read(&[], 0), [(1, 1); 4]);
+    assert_eq!(read(&none, 0), [FINE; 4]);
+    assert_eq!(read(&[], 0), [(1, 1, 0); 4]);
 }
 
 #[test]

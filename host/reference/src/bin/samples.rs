@@ -5,12 +5,12 @@
 use std::fs;
 use std::path::{Path, PathBuf};
 
-use reference::accept;
 use reference::breach::{breaches, recipe};
 use reference::make::{Recipe, Sample};
 use reference::quality::{marks, NAMES};
 use reference::random::Random;
 use reference::reel;
+use reference::{accept, numbers};
 
 const COLUMNS: u64 = 64;
 const LINES: u64 = 3;
@@ -60,24 +60,24 @@ fn write_good(folder: &Path, random: &mut Random) {
 fn write_refused(folder: &Path, random: &mut Random) {
     let mut lines = String::new();
     for order in [0, 1] {
-        for (number, breach) in breaches().iter().enumerate() {
+        for (number, breach) in breaches(&recipe(order)).iter().enumerate() {
             let mut sample = Sample::make(&recipe(order), random);
             breach.apply(&mut sample);
-            let refusal = accept(&sample.bytes).expect_err("a rule is broken");
-            assert_eq!((refusal.number, refusal.block), breach.answer);
+            assert_eq!(numbers(&accept(&sample.bytes)), breach.answer);
             write(
                 folder,
                 &format!("refused-{order}-{number:03}"),
                 &sample.bytes,
             );
-            lines += &format!("NO {} {}\n", refusal.number, refusal.block);
+            let (refusal, block, offset) = breach.answer;
+            lines += &format!("NO {refusal} {block} {offset}\n");
         }
     }
     write(folder, "refused.lines", lines.as_bytes());
 }
 
 /// Reels of samples that are there already, what the listing must have of the first one, and which file of a bad one is
-/// at fault: its number, offset, length, refusal and block.
+/// at fault: its number, offset and length, and its refusal, block and byte from its own start.
 fn write_reels(folder: &Path) {
     let sample = |name: &str| fs::read(folder.join(name)).expect("the sample is written");
     let box_of = |names: &[&str]| names.iter().map(|name| sample(name)).collect::<Vec<_>>();
@@ -94,9 +94,9 @@ fn write_reels(folder: &Path) {
     write(folder, "reel-255", &reel_of(&most));
 
     let mut bad = box_of(&["segment-1", "refused-0-022", "good-0"]);
-    let refusal = accept(&bad[1]).expect_err("it is refused");
+    let (refusal, block, byte) = numbers(&accept(&bad[1]));
     let (offset, length) = (bad[0].len(), bad[1].len());
-    let line = format!("2 {offset} {length} {} {}\n", refusal.number, refusal.block);
+    let line = format!("2 {offset} {length} {refusal} {block} {byte}\n");
     bad.push(trailer_of(&bad));
     write(folder, "reel-bad", &bad.concat());
     write(folder, "reel-bad.line", line.as_bytes());
