@@ -263,7 +263,7 @@ fn header_changed(reel: &[u8], files: usize, random: &mut Random) -> Option<Vec<
     }
     let looked_at = [
         0, 1, 3, 5, 6, 15, 38, 44, 70, 74, 114, 123, 157, 282, 283, 285, 287, 289, 291, 332, 459,
-        598, 601, 611, 613, 745, 1_004, 1_007, 1_008, 1_009, 1_051, 1_070,
+        598, 601, 611, 613, 615, 745, 1_004, 1_007, 1_008, 1_009, 1_051, 1_070,
     ];
     let any = random.below(header as u64) as usize;
     let place = random.pick(&looked_at);

@@ -135,92 +135,108 @@ fn every_two_faults_of_a_block() {
     println!("{compared} files compared");
 }
 
-/// Fields of a block that are put there, and what is due: block, offset there, bytes and value of each.
-type Fields = &'static [(usize, usize, usize, u64)];
+/// A block, an offset there and so many bytes.
+type Field = (usize, usize, usize);
 
-const COLUMNS: (usize, usize) = (5, 2);
-const LINES: (usize, usize) = (7, 2);
-const FLAG: (usize, usize) = (9, 1);
+const BLOCK_1: Field = (1, 0, 1);
+const BLOCK_11: Field = (11, 0, 1);
+const LENGTH_1: Field = (1, 1, 2);
+const BLOCK_COUNT: Field = (1, 3, 2);
+const ORDER: Field = (1, 5, 1);
+/// Of satellite, area and name the first byte and the last.
+const SATELLITE: Field = (1, 6, 1);
+const SATELLITE_END: Field = (1, 21, 1);
+const AREA: Field = (1, 38, 1);
+const AREA_END: Field = (1, 41, 1);
+const TIMELINE: Field = (1, 44, 2);
+const HEADER_SUM: Field = (1, 70, 4);
+const DATA_SUM: Field = (1, 74, 4);
+const NAME: Field = (1, 114, 1);
+const NAME_END: Field = (1, 241, 1);
+const BITS: Field = (2, 3, 2);
+const COLUMNS: Field = (2, 5, 2);
+const LINES: Field = (2, 7, 2);
+const FLAG: Field = (2, 9, 1);
+const BAND: Field = (5, 3, 2);
+const VALID_BITS: Field = (5, 13, 2);
+const ERROR_COUNT: Field = (5, 15, 2);
+const OUTSIDE_COUNT: Field = (5, 17, 2);
+const TOTAL: Field = (7, 3, 1);
+const NUMBER: Field = (7, 4, 1);
+const FIRST_LINE: Field = (7, 5, 2);
 
-const fn of_block_2((offset, width): (usize, usize), value: u64) -> (usize, usize, usize, u64) {
-    (2, offset, width, value)
-}
-
-/// By hand, apart from the list of breaches: the first field in field order answers, but FIXED and PACKED come before.
-const TOGETHER: &[(Answer, Fields)] = &[
+/// What is due of a file without entries when these fields of it have these values. By hand, apart from the list of
+/// breaches: the first field in field order answers, but FIXED and PACKED come before.
+const TOGETHER: &[(Answer, &[(Field, u64)])] = &[
     // the compression flag stands behind columns and lines
-    ((6, 2, 291), &[of_block_2(FLAG, 1), of_block_2(COLUMNS, 0)]),
-    (
-        (6, 2, 291),
-        &[of_block_2(FLAG, 2), of_block_2(LINES, 22_001)],
-    ),
-    (
-        (34, 2, 287),
-        &[of_block_2(FLAG, 3), of_block_2(COLUMNS, 22_001)],
-    ),
-    ((34, 2, 289), &[of_block_2(FLAG, 255), of_block_2(LINES, 0)]),
-    (
-        (34, 2, 287),
-        &[of_block_2(LINES, 0), of_block_2(COLUMNS, 0)],
-    ),
-    ((35, 2, 291), &[of_block_2(FLAG, 3)]),
-    // bits 15
-    (
-        (5, 2, 285),
-        &[(2, 3, 2, 15), of_block_2(FLAG, 1), of_block_2(COLUMNS, 0)],
-    ),
-    // block count 12, before a satellite, an area and a timeline that begin with 0, 0 and 99
+    ((6, 2, 291), &[(FLAG, 1), (COLUMNS, 0)]),
+    ((6, 2, 291), &[(FLAG, 2), (LINES, 22_001)]),
+    ((34, 2, 287), &[(FLAG, 3), (COLUMNS, 22_001)]),
+    ((34, 2, 289), &[(FLAG, 255), (LINES, 0)]),
+    ((34, 2, 287), &[(LINES, 0), (COLUMNS, 0)]),
+    ((35, 2, 291), &[(FLAG, 3)]),
+    ((5, 2, 285), &[(BITS, 15), (FLAG, 1), (COLUMNS, 0)]),
     (
         (5, 1, 3),
-        &[(1, 3, 2, 12), (1, 6, 1, 0), (1, 38, 1, 0), (1, 44, 2, 99)],
+        &[(BLOCK_COUNT, 12), (SATELLITE, 0), (AREA, 0), (TIMELINE, 99)],
     ),
-    ((31, 1, 6), &[(1, 6, 1, 0), (1, 38, 1, 0), (1, 44, 2, 99)]),
-    ((32, 1, 38), &[(1, 38, 1, 0), (1, 44, 2, 99)]),
-    ((33, 1, 44), &[(1, 44, 2, 99)]),
-    // a fault of the satellite's or the area's last byte is told where the field begins
-    ((31, 1, 6), &[(1, 21, 1, 1)]),
-    ((32, 1, 38), &[(1, 41, 1, 0)]),
+    ((31, 1, 6), &[(SATELLITE, 0), (AREA, 0), (TIMELINE, 99)]),
+    ((32, 1, 38), &[(AREA, 0), (TIMELINE, 99)]),
+    ((33, 1, 44), &[(TIMELINE, 99)]),
+    // whichever letter it is, the field is told where it begins
+    ((31, 1, 6), &[(SATELLITE_END, 1)]),
+    ((32, 1, 38), &[(AREA_END, 0)]),
+    ((10, 1, 114), &[(NAME_END, 1)]),
     // the special counts stand behind the band and the valid bits
     (
         (5, 5, 613),
-        &[(5, 15, 2, 0), (5, 17, 2, 0), (5, 3, 2, 17), (5, 13, 2, 13)],
+        &[
+            (ERROR_COUNT, 0),
+            (OUTSIDE_COUNT, 0),
+            (BAND, 17),
+            (VALID_BITS, 13),
+        ],
     ),
-    ((5, 5, 615), &[(5, 17, 2, 0), (5, 3, 2, 17), (5, 13, 2, 13)]),
-    ((36, 5, 601), &[(5, 3, 2, 17), (5, 13, 2, 13)]),
-    ((36, 5, 601), &[(5, 3, 2, 0)]),
-    ((37, 5, 611), &[(5, 13, 2, 11)]),
+    (
+        (5, 5, 615),
+        &[(OUTSIDE_COUNT, 0), (BAND, 17), (VALID_BITS, 13)],
+    ),
+    ((36, 5, 601), &[(BAND, 17), (VALID_BITS, 13)]),
+    ((36, 5, 601), &[(BAND, 0)]),
+    ((37, 5, 611), &[(VALID_BITS, 11)]),
     // another band, for which the bits that are there are not right
-    ((37, 5, 611), &[(5, 3, 2, 7)]),
+    ((37, 5, 611), &[(BAND, 7)]),
     // a number above the total is the number's fault
-    ((38, 7, 1_007), &[(7, 3, 1, 0)]),
+    ((38, 7, 1_007), &[(TOTAL, 0)]),
     (
         (38, 7, 1_007),
-        &[(7, 3, 1, 100), (7, 4, 1, 101), (7, 5, 2, 0)],
+        &[(TOTAL, 100), (NUMBER, 101), (FIRST_LINE, 0)],
     ),
-    ((38, 7, 1_008), &[(7, 4, 1, 3)]),
-    ((38, 7, 1_008), &[(7, 3, 1, 1), (7, 4, 1, 2)]),
-    ((38, 7, 1_008), &[(7, 4, 1, 0), (7, 5, 2, 0)]),
-    ((38, 7, 1_009), &[(7, 5, 2, 0)]),
+    ((38, 7, 1_008), &[(NUMBER, 3)]),
+    ((38, 7, 1_008), &[(TOTAL, 1), (NUMBER, 2)]),
+    ((38, 7, 1_008), &[(NUMBER, 0), (FIRST_LINE, 0)]),
+    ((38, 7, 1_009), &[(FIRST_LINE, 0)]),
     // two lines from 21,999 are the last ones; three are too many, and that is the first line's fault
-    ((9, 1, 74), &[(7, 5, 2, 21_998), of_block_2(LINES, 3)]),
-    ((38, 7, 1_009), &[(7, 5, 2, 21_999), of_block_2(LINES, 3)]),
-    ((38, 7, 1_009), &[(7, 5, 2, 22_000)]),
-    // 65,535 and two lines are 1 in two bytes
-    ((38, 7, 1_009), &[(7, 5, 2, 65_535)]),
+    (FINE, &[(FIRST_LINE, 21_999)]),
+    ((38, 7, 1_009), &[(FIRST_LINE, 22_000)]),
+    ((38, 7, 1_009), &[(FIRST_LINE, 21_999), (LINES, 3)]),
+    ((9, 1, 74), &[(FIRST_LINE, 21_998), (LINES, 3)]),
+    // 65,535 and two lines end with line 0 in two bytes
+    ((38, 7, 1_009), &[(FIRST_LINE, 65_535)]),
     // bad lines are block 2's, and the first line is not looked at
-    ((34, 2, 289), &[(7, 5, 2, 0), of_block_2(LINES, 0)]),
-    // the length of block 1 is looked at after the byte order
-    ((3, 1, 5), &[(1, 5, 1, 2), (1, 1, 2, 0)]),
-    ((2, 1, 0), &[(1, 0, 1, 0), (1, 5, 1, 2)]),
+    ((34, 2, 289), &[(FIRST_LINE, 0), (LINES, 0)]),
+    // the number of block 1, then the byte order, then the length
+    ((2, 1, 0), &[(BLOCK_1, 0), (ORDER, 2), (LENGTH_1, 0)]),
+    ((3, 1, 5), &[(ORDER, 2), (LENGTH_1, 0)]),
+    ((4, 1, 1), &[(LENGTH_1, 0), (BLOCK_COUNT, 12)]),
     // the sums and the name come after all blocks
     (
         (2, 11, 1_204),
-        &[(11, 0, 1, 12), (1, 70, 4, 0), (1, 74, 4, 0), (1, 114, 1, 0)],
+        &[(BLOCK_11, 12), (HEADER_SUM, 0), (DATA_SUM, 0), (NAME, 0)],
     ),
-    ((8, 1, 70), &[(1, 70, 4, 0), (1, 74, 4, 0), (1, 114, 1, 0)]),
-    ((9, 1, 74), &[(1, 74, 4, 0), (1, 114, 1, 0)]),
-    // and the name is told where it begins, whichever letter it is
-    ((10, 1, 114), &[(1, 241, 1, 1)]),
+    ((8, 1, 70), &[(HEADER_SUM, 0), (DATA_SUM, 0), (NAME, 0)]),
+    ((9, 1, 74), &[(DATA_SUM, 0), (NAME, 0)]),
+    ((10, 1, 114), &[(NAME, 0)]),
 ];
 
 #[test]
@@ -230,7 +246,7 @@ fn fields_together() {
             ask(&[], (1, 1, 0));
             for (due, fields) in TOGETHER {
                 let mut sample = make(order, [0; 3]);
-                for &(block, offset, width, value) in *fields {
+                for &((block, offset, width), value) in *fields {
                     sample.put(block, offset, width, value);
                 }
                 ask(&sample.bytes, *due);
@@ -239,25 +255,18 @@ fn fields_together() {
     });
 }
 
-/// A file with 2, 3 and 4 entries, changed at a byte.
-fn changed(at: usize, byte: u8) -> Vec<u8> {
-    let mut file = make(1, [2, 3, 4]).bytes;
-    file[at] = byte;
-    file
-}
-
-/// Refused files, and what each is told wherever it comes from.
-fn refused() -> [(Vec<u8>, Answer); 7] {
-    let good = make(0, [2, 3, 4]).bytes;
-    [
-        (vec![], (1, 1, 0)),
-        (changed(44, 99), (33, 1, 44)),
-        (changed(282, 3), (2, 2, 282)),
-        (changed(1_132, 8), (2, 9, 1_132)),
-        (changed(1_208, 1), (4, 10, 1_208)),
-        (good[..1_530].to_vec(), (11, 12, 1_529)),
-        ([&good[..], &[0]].concat(), (12, 12, 1_529)),
-    ]
+/// A file for every breach in either byte order, and what it is told wherever it comes from.
+fn refused() -> Vec<(Vec<u8>, Answer)> {
+    let mut all = Vec::new();
+    for order in [0, 1] {
+        let good = make(order, [2, 3, 4]);
+        for breach in breaches(&good.recipe) {
+            let mut sample = good.clone();
+            breach.apply(&mut sample);
+            all.push((sample.bytes, breach.answer));
+        }
+    }
+    all
 }
 
 const SLATE: Slate = Slate {
@@ -363,7 +372,7 @@ fn boxes() -> Vec<Boxed> {
             files.insert(at, bad.clone());
             all.push(Boxed {
                 files,
-                room: 10_000,
+                room: 5_000,
                 opened: own,
                 written: own,
             });
@@ -379,7 +388,7 @@ fn boxes() -> Vec<Boxed> {
     all.extend([good(3_007, FINE), good(3_006, (17, 0, 0))]);
     all.push(Boxed {
         files: vec![],
-        room: 10_000,
+        room: 5_000,
         opened: (18, 0, 0),
         written: (18, 0, 0),
     });
