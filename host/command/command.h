@@ -97,11 +97,14 @@ bool is_error_stream(const char *name);
 
 /* Standard output, at once; one that cannot be written to ends the command. */
 void say(const char *format, ...) __attribute__((format(printf, 1, 2)));
-void say_refused(const char *name, uint8_t refusal, uint8_t block);
+void say_refused(const char *name, HsdAnswer answer);
 const char *refusal_name(uint8_t refusal);
 
-/* A refusal's number, name and block: good until the next call. */
-const char *refusal_words(uint8_t refusal, uint8_t block);
+/* A refusal's number, the name of the field or rule, its block and, in a block, the byte: good until the next call. */
+const char *refusal_words(HsdAnswer answer);
+
+/* What a file is refused for. */
+HsdAnswer refusal_of(const HsdFile *found);
 
 /* Standard error. */
 void complain(const char *about, const char *what);

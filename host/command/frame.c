@@ -72,7 +72,7 @@ static bool offer_file(Frame *frame, const char *name)
     unsigned number = hsd_accept(file.bytes, file.length).number;
     close_file(&file);
     if (answer.refusal)
-        say_refused(name, answer.refusal, answer.block);
+        say_refused(name, answer);
     else
         say("%s: placed %u of %u\n", shown(name), number, frame->slate.total);
     return true;

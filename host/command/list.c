@@ -8,7 +8,7 @@ void say_listed(const char *name, const HsdFile *f)
     if (!f)
         say("\n");
     else if (f->refusal)
-        say("NO %u %u\n", f->refusal, f->block);
+        say("NO %u %u %u\n", f->refusal, f->block, f->offset);
     else
         say("OK %u %u %04u %u %c%c%c%c %u %u %u %u %u\n", f->satellite, f->day, f->timeline, f->band, (int)(f->area >> 24),
             (int)(f->area >> 16 & 255), (int)(f->area >> 8 & 255), (int)(f->area & 255), f->columns, f->lines, f->number,

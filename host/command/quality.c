@@ -21,7 +21,7 @@ static void say_marks(const char *name, HsdQuality q)
 static void say_line(const char *name, const HsdFile *f)
 {
     if (f && f->refusal)
-        say_refused(name, f->refusal, f->block);
+        say_refused(name, refusal_of(f));
     else if (f)
         say_marks(name, hsd_quality(f->quality));
 }

@@ -41,7 +41,7 @@ static int read_one(const File *file, char **words)
     HsdFile says = hsd_accept(file->bytes, file->length);
     unsigned line, column;
     if (says.refusal) {
-        say("%s\n", refusal_words(says.refusal, says.block));
+        say("%s\n", refusal_words(refusal_of(&says)));
         return REFUSED;
     }
     if (!parse_number(words[1], 1, says.lines, &line)) {

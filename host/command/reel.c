@@ -41,15 +41,17 @@ static uint16_t find_refused(const File *reel)
     return number;
 }
 
-static void say_reel_refused(const char *name, const File *reel, HsdReel answer)
+/* A file's refusal counts its byte from where that file begins. */
+static void say_reel_refused(const char *name, const File *reel, HsdReel found)
 {
+    HsdAnswer answer = {.refusal = found.refusal, .block = found.block, .offset = found.offset};
     if (answer.refusal == HSD_REEL) {
-        say_refused(name, answer.refusal, answer.block);
+        say_refused(name, answer);
         return;
     }
     uint16_t number = find_refused(reel);
     HsdPart part = hsd_reel_part(reel->bytes, reel->length, number);
-    say("%s: part %u, byte %u: %s\n", shown(name), number, part.offset, refusal_words(answer.refusal, answer.block));
+    say("%s: part %u, from byte %u: %s\n", shown(name), number, part.offset, refusal_words(answer));
 }
 
 int judge_reel(const char *name, File *reel, uint16_t *files)

@@ -49,7 +49,6 @@ const char *refusal_name(uint8_t refusal)
     case HSD_LENGTH: return "LENGTH";
     case HSD_FIXED: return "FIXED";
     case HSD_PACKED: return "PACKED";
-    case HSD_FIELD: return "FIELD";
     case HSD_HEADER_SUM: return "HEADER SUM";
     case HSD_DATA_SUM: return "DATA SUM";
     case HSD_NAME: return "NAME";
@@ -61,20 +60,57 @@ const char *refusal_name(uint8_t refusal)
     case HSD_ALREADY: return "ALREADY";
     case HSD_ROOM: return "ROOM";
     case HSD_REEL: return "REEL";
+    case HSD_SATELLITE_FIELD: return "satellite";
+    case HSD_AREA_FIELD: return "area";
+    case HSD_TIMELINE_FIELD: return "timeline";
+    case HSD_SIZE_FIELD: return "columns or lines";
+    case HSD_COMPRESSION_FIELD: return "compression flag";
+    case HSD_BAND_FIELD: return "band";
+    case HSD_BITS_FIELD: return "valid bits";
+    case HSD_SEGMENT_FIELD: return "segment numbers or first line";
+    case HSD_DAY_FIELD: return "day";
     default: return "UNKNOWN";
     }
 }
 
-const char *refusal_words(uint8_t refusal, uint8_t block)
+/* Where a refusal has several fields, the offset tells which of them it is. */
+static const char *fault_name(HsdAnswer answer)
 {
-    static char words[64];
-    snprintf(words, sizeof words, "refused %u %s, block %u", refusal, refusal_name(refusal), block);
+    static const struct {
+        uint8_t refusal;
+        uint32_t offset;
+        const char *name;
+    } fields[] = {
+        {HSD_SIZE_FIELD, 287, "columns"},
+        {HSD_SIZE_FIELD, 289, "lines"},
+        {HSD_SEGMENT_FIELD, 1007, "segment total"},
+        {HSD_SEGMENT_FIELD, 1008, "segment number"},
+        {HSD_SEGMENT_FIELD, 1009, "first line"},
+    };
+    for (size_t i = 0; i < sizeof fields / sizeof *fields; i++)
+        if (fields[i].refusal == answer.refusal && fields[i].offset == answer.offset)
+            return fields[i].name;
+    return refusal_name(answer.refusal);
+}
+
+/* Block 0 is no block of a file: there is no byte to look at. */
+const char *refusal_words(HsdAnswer answer)
+{
+    static char words[96];
+    int length = snprintf(words, sizeof words, "refused %u %s, block %u", answer.refusal, fault_name(answer), answer.block);
+    if (answer.block)
+        snprintf(words + length, sizeof words - (size_t)length, ", byte %u", answer.offset);
     return words;
 }
 
-void say_refused(const char *name, uint8_t refusal, uint8_t block)
+HsdAnswer refusal_of(const HsdFile *found)
 {
-    say("%s: %s\n", shown(name), refusal_words(refusal, block));
+    return (HsdAnswer){.refusal = found->refusal, .block = found->block, .offset = found->offset};
+}
+
+void say_refused(const char *name, HsdAnswer answer)
+{
+    say("%s: %s\n", shown(name), refusal_words(answer));
 }
 
 void complain(const char *about, const char *what)

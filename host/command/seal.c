@@ -24,7 +24,7 @@ static int add_judged(const char *name, File *bytes, uint32_t *length)
     HsdFile found = hsd_accept(bytes->bytes + start, *length);
     if (!found.refusal)
         return GOOD;
-    say_refused(name, found.refusal, found.block);
+    say_refused(name, refusal_of(&found));
     return REFUSED;
 }
 
@@ -54,7 +54,7 @@ static int seal(Roll *roll, const char *name)
     uint8_t *bytes = roll->bytes.bytes;
     HsdAnswer answer = hsd_reel_seal(bytes, length, roll->lengths, roll->count, bytes + length, trailer);
     if (answer.refusal) {
-        say_refused(name, answer.refusal, answer.block);
+        say_refused(name, answer);
         return REFUSED;
     }
     roll->bytes.length += trailer;
