@@ -43,7 +43,7 @@ fn answer(d: Dated) {
         Dated::NoSuchDate => shots::refuse(Refusal {
             why: Why::Name,
             block: 1,
-            at: 0,
+            offset: 0,
         }),
     }
     ;

@@ -117,6 +117,7 @@ around f xs zs u hx hz h = outer (split xs h)
     inner : Either (checks f) zs u → Concerns (f ∷ []) u
     inner (within g) = alone f u g
     inner (beyond e g) = none-of (f ∷ []) zs u hz g
+
     outer : Either xs (checks f ++ zs) u → Concerns (f ∷ []) u
     outer (within g) = none-of (f ∷ []) xs u hx g
     outer (beyond e g) = inner (split (checks f) g)
@@ -162,6 +163,7 @@ parts-of fs xs zs u hx hz h = outer (split xs h)
     inner : Either (filed fs) zs u → Concerns fs u
     inner (within g) = any-of fs u g
     inner (beyond e g) = none-of fs zs u hz g
+
     outer : Either xs (filed fs ++ zs) u → Concerns fs u
     outer (within g) = none-of fs xs u hx g
     outer (beyond e g) = inner (split (filed fs) g)
@@ -232,6 +234,7 @@ lent-for ok s marks size f u h = outer (split (lent ok) h)
     inner : Either (offering s marks size f) [] u → Concerns (f ∷ []) u
     inner (within g) = offered-for s marks size f u g
     inner (beyond e g) = absurd (nothing g)
+
     outer : Either (lent ok) (offering s marks size f ++ []) u → Concerns (f ∷ []) u
     outer (within g) = none-of (f ∷ []) (lent ok) u refl g
     outer (beyond e g) = inner (split (offering s marks size f) g)

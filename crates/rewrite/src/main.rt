@@ -1,7 +1,7 @@
 // Has any bytes read by the four readers, and writes what they read: the host tests compare its answers with an independent reader and writer.
 // Numbers are little-endian. A request: the image's length, the output's length, how many entries each slice lent to a reader has room for
 // (beyond 65,536 counts as that), 4 bytes each, and the image. Its answer: what reader::read, read_shifts, read_times, read_errors and the writer say,
-// a refusal's number and block each, a byte each, 0 and 0 for none; and the output.
+// a refusal's number and block, a byte each, and its offset, 4 bytes, or zeros for none; and the output.
 // Where a reader refuses, the writer is given what the image states, read as a file would have it.
 mod entries;
 mod raw;

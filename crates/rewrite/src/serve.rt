@@ -22,13 +22,15 @@ fn blank(out: &mut [u8]) {
     }
 }
 
-// Notes a refusal's number and block at a place, where zeros are, and says whether there was none.
-fn fine(notes: &mut [u8; 10], at: usize, v: Verdict) -> bool {
+// Notes a refusal's number, block and offset at a place, where zeros are, and says whether there was none.
+fn fine(notes: &mut [u8; 30], at: usize, v: Verdict) -> bool {
     match v {
         Verdict::Fine => true,
         Verdict::Refused(t) => {
             let why = t.why;
-            wire::put2(notes, at, [rules::number_of(why), t.block]);
+            let mut note = [rules::number_of(why), t.block, 0, 0, 0, 0];
+            wire::put_u32(&mut note, 2, t.offset, 0);
+            wire::put(notes, at, &note);
             false
         }
     }
@@ -39,7 +41,7 @@ fn fine(notes: &mut [u8; 10], at: usize, v: Verdict) -> bool {
 fn read(
     s: &[u8],
     room: usize,
-    notes: &mut [u8; 10],
+    notes: &mut [u8; 30],
     lines8: &mut [u16; 65536],
     xs: &mut [u32; 65536],
     ys: &mut [u32; 65536],
@@ -53,9 +55,9 @@ fn read(
     let v8 = entries::read8(s, room, lines8, xs, ys);
     let v9 = entries::read9(s, room, lines9, times);
     let v10 = entries::read10(s, room, lines10, pixels);
-    let fine8 = fine(notes, 2, v8);
-    let fine9 = fine(notes, 4, v9);
-    let fine10 = fine(notes, 6, v10);
+    let fine8 = fine(notes, 6, v8);
+    let fine9 = fine(notes, 12, v9);
+    let fine10 = fine(notes, 18, v10);
     if fine(notes, 0, v) & fine8 & fine9 & fine10 {
         return first.header;
     }
@@ -95,7 +97,7 @@ fn write(
     )
 }
 
-fn send(notes: &[u8; 10], out: &[u8]) {
+fn send(notes: &[u8; 30], out: &[u8]) {
     io::write_all(STDOUT_FILENO, notes);
     io::write_all(STDOUT_FILENO, out);
 }
@@ -156,7 +158,7 @@ fn answer(
         return false;
     }
     let out = &mut out[0..length];
-    let mut notes = [0u8; 10];
+    let mut notes = [0u8; 30];
     let h = read(
         s,
         n.room,
@@ -170,7 +172,7 @@ fn answer(
         pixels,
     );
     let v = write(s, out, h, lines8, xs, ys, lines9, times, lines10, pixels);
-    fine(&mut notes, 8, v);
+    fine(&mut notes, 24, v);
     send(&notes, out);
     true
 }
