@@ -143,25 +143,34 @@ of-check-slate κ a r t p = onward (slated (a .0)) refl p
 
 -- ---- values
 
-pub of-day : (κ : _) (a : _) (r : _) (t : _) → day-of.Post κ a r t → (u : Turned) → paperDay r ≡ refuses u → allowed u ≡ true
-unfolding dayOf allowed
-of-day κ a r t p u e = told (real (a .0) (a .1 .0) (a .1 .1 .0)) (dayAt (a .0) (a .1 .0) (a .1 .1 .0)) (sym p ∙ e)
+-- a date that is not real is NAME, block 1, of no file
+pub no-day : (κ : _) (a : _) (r : _) (t : _) → day-of.Post κ a r t → (u : Turned) → paperDay r ≡ refuses u → u ≡ turned 10 1 0
+unfolding dayOf
+no-day κ a r t p u e = told (real (a .0) (a .1 .0) (a .1 .1 .0)) (dayAt (a .0) (a .1 .0) (a .1 .1 .0)) (sym p ∙ e)
   where
-    told : (b : Bool) (n : ℕ) → cond b (says n) (refuses (turned 10 1 0)) ≡ refuses u → allowed u ≡ true
+    told : (b : Bool) (n : ℕ) → cond b (says n) (refuses (turned 10 1 0)) ≡ refuses u → u ≡ turned 10 1 0
     told true n e = absurd (let z : _≡_ {A = ℕ} 0 1 = cc in omega arith)
-    told false n e = let q : turned 10 1 0 ≡ u = cc in rw (← q)
+    told false n e = cc
 
-pub of-date : (κ : _) (a : _) (r : _) (t : _) → date-of.Post κ a r t → (u : Turned) → paperDay r ≡ refuses u → allowed u ≡ true
-unfolding dateOf dayOf allowed
-of-date κ a r t p u e =
+pub of-day : (κ : _) (a : _) (r : _) (t : _) → day-of.Post κ a r t → (u : Turned) → paperDay r ≡ refuses u → allowed u ≡ true
+unfolding allowed
+of-day κ a r t p u e = rw (no-day κ a r t p u e)
+
+pub no-date : (κ : _) (a : _) (r : _) (t : _) → date-of.Post κ a r t → (u : Turned) → paperDay r ≡ refuses u → u ≡ turned 10 1 0
+unfolding dateOf dayOf
+no-date κ a r t p u e =
     let two : ℕ → ℕ = λ at. pair (getD (a .0) at 0) (getD (a .0) (at + 1) 0) in
     let year = two 7 * 100 + two 9 in
     told (digits8 (a .0)) (real year (two 11) (two 13)) (dayAt year (two 11) (two 13)) (sym p ∙ e)
   where
-    told : (b c : Bool) (n : ℕ) → cond b (cond c (says n) (refuses (turned 10 1 0))) (refuses (turned 10 1 0)) ≡ refuses u → allowed u ≡ true
+    told : (b c : Bool) (n : ℕ) → cond b (cond c (says n) (refuses (turned 10 1 0))) (refuses (turned 10 1 0)) ≡ refuses u → u ≡ turned 10 1 0
     told true true n e = absurd (let z : _≡_ {A = ℕ} 0 1 = cc in omega arith)
-    told true false n e = let q : turned 10 1 0 ≡ u = cc in rw (← q)
-    told false c n e = let q : turned 10 1 0 ≡ u = cc in rw (← q)
+    told true false n e = cc
+    told false c n e = cc
+
+pub of-date : (κ : _) (a : _) (r : _) (t : _) → date-of.Post κ a r t → (u : Turned) → paperDay r ≡ refuses u → allowed u ≡ true
+unfolding allowed
+of-date κ a r t p u e = rw (no-date κ a r t p u e)
 
 pub of-slot : (κ : _) (a : _) (r : _) (t : _) → slot.Post κ a r t → (u : Turned) → paperSlot r ≡ refuses u → allowed u ≡ true
 unfolding slotOf shot inTable allowed

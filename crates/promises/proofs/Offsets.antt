@@ -11,10 +11,9 @@ use lib.Dec.{eqb}
 use lib.IntN.{ℤ}
 use borrow.Author.Tests.{eqb-true}
 use denote.Ref.{now}
-use Rattle.rules.specs.Rules.{Turned, turned, Row, test, Ruling, fine, refused, judge, checked, First, here, later, tables, unplaced, paper, Reply, says, refuses, reply}
-use Rattle.rules.proofs.Judge.{first-fails, turned-away, exactly}
-use Rattle.calendar.specs.Shots.{shots, filmFrameOf}
-use Rattle.header.specs.Places.{orderOf}
+use Rattle.rules.specs.Rules.{Turned, turned, Row, test, Ruling, fine, refused, judge, checked, First, here, later, tables, unplaced, paper, refuses, reply}
+use Rattle.rules.proofs.Judge.{first-fails, turned-away}
+use Rattle.calendar.specs.Shots.{shot, paperSlot, shots, paperFrame, filmFrameOf}
 use Rattle.header.specs.Values.{block1Of, block2Of, block5Of, block7Of}
 use Rattle.accept.specs.Checks.{shape, entries, shape1, fields1, fixed2, fields2, fixed5, fields5, fields7, sums, names, ends, blocks1to4, blocks5to7, blocks8to11, whole, checks}
 use Rattle.accept.specs.declared.Facts.{Facts}
@@ -23,12 +22,14 @@ use Rattle.slate.specs.Slates.{slated}
 use Rattle.frame.specs.Frames.{ready, placing, offering}
 use Rattle.reader.specs.Reads.{rooms2, rooms3}
 use Rattle.writer.specs.Given.{given}
-use Rattle.reel.specs.Reels.{File, Good, filed, partsOf, paperOpened, opened}
+use Rattle.reel.specs.Reels.{File, filed, partsOf, paperOpened, opened}
 use Rattle.reel.specs.Reels as reels
 use Rattle.reel.specs.Writing.{writing, listed}
 use Rattle.plugin.specs.Plugin.{shownRuling, shownFile, shownFrame}
-use Rattle.plugin_frames.specs.Strips.{slateIn, goodMarks, lent, marksIn, offeredC}
+use Rattle.plugin_frames.specs.Strips.{lent, offeredC}
 use Rattle.plugin_reels.specs.Reels.{shownReel}
+use Rattle.calendar.proofs.slot.Reads as slot
+use Rattle.calendar.proofs.frame_number.Reads as frame-number
 use Rattle.accept.proofs.verdict.Reads as verdict
 use Rattle.accept.proofs.accept.Reads as accept
 use Rattle.reader.proofs.read.Reads as read
@@ -47,7 +48,7 @@ use Rattle.plugin_reels.proofs.hsd_reel_open.Reads as hsd-reel-open
 use Rattle.plugin_reels.proofs.hsd_reel_write.Reads as hsd-reel-write
 use Rattle.plugin_reels.proofs.hsd_reel_seal.Reads as hsd-reel-seal
 use Rattle.promises.specs.Blocks.{allowed}
-use Rattle.promises.specs.Fields.{fields, Concerns, none, one, offsetOf}
+use Rattle.promises.specs.Fields.{fields, slotFields, filmFields, Concerns, none, one, offsetOf}
 use Rattle.promises.specs.Reels.{Laid, Handed}
 use Rattle.promises.proofs.First as first
 use Rattle.promises.proofs.Reeled.{laid-has, handed-listed}
@@ -194,6 +195,15 @@ first-unplaced [] f = absurd (nothing f)
 first-unplaced (test ok (turned n b p) ∷ rs) (here e) = refl
 first-unplaced (test ok (turned n b p) ∷ rs) (later e f) = first-unplaced rs f
 
+pub of-slot : (κ : _) (a : _) (r : _) (t : _) → slot.Post κ a r t → (u : Turned) → (paperSlot r ≡ refuses u) ↔ First (slotFields (a .0) (a .1 .0)) u
+unfolding shot
+of-slot = first.of-slot
+
+pub of-frame-number : (κ : _) (a : _) (r : _) (t : _) → frame-number.Post κ a r t → (u : Turned)
+    → (paperFrame r ≡ refuses u) ↔ First (filmFields (a .0) (a .1 .0) (a .1 .1 .0) (a .1 .1 .1 .0)) u
+unfolding shots
+of-frame-number = first.of-frame-number
+
 pub of-write : (κ : _) (a : _) (r : _) (t : _) → write.Post κ a r t → (u : Turned) → paper r ≡ refused u → offsetOf u ≡ 0
 unfolding given
 of-write κ a r t p u e = first-unplaced _ (first.of-write κ a r t p u .0 e)
@@ -252,6 +262,7 @@ of-hsd-reel-write κ a r t p h = rw (p .0, ← handed-listed h) (λ z. wrote-of 
 pub of-hsd-reel-seal : (κ : _) (a : _) (r : _) (t : _) → hsd-reel-seal.Post κ a r t → {fs : List File} → Handed (now (a .0)) (now (a .1 .0)) fs → (r .refusal ≡ 0 → ⊥) → Concerns fs (turned (r .refusal) (r .block) (r .offset))
 of-hsd-reel-seal κ a r t p h = rw (p .0, ← handed-listed h) (λ z. wrote-of _ _ _ _ _ (shown-ruling _ z))
 
-pub of-hsd-frame-number : (κ : _) (a : _) (r : _) (t : _) → hsd-frame-number.Post κ a r t → (r .refusal ≡ 0 → ⊥) → (r .block ≡ 0) × (r .offset ≡ 0)
+pub of-hsd-frame-number : (κ : _) (a : _) (r : _) (t : _) → hsd-frame-number.Post κ a r t → (r .refusal ≡ 0 → ⊥)
+    → First (filmFields (a .0) (a .1 .0) (a .1 .1 .0) (a .1 .1 .1 .0)) (turned (r .refusal) (r .block) (r .offset))
 unfolding filmFrameOf shots
-of-hsd-frame-number κ a r t p = rw p (λ h. zeros refl (first-fails (shots (a .0) (a .1 .0) (a .1 .1 .0) (a .1 .1 .1 .0)) _ .0 (shown-frame (judge fine (shots (a .0) (a .1 .0) (a .1 .1 .0) (a .1 .1 .1 .0))) _ h)))
+of-hsd-frame-number κ a r t p = rw p (λ h. first-fails (shots (a .0) (a .1 .0) (a .1 .1 .0) (a .1 .1 .1 .0)) _ .0 (shown-frame (judge fine (shots (a .0) (a .1 .0) (a .1 .1 .0) (a .1 .1 .1 .0))) _ h))

@@ -8,7 +8,7 @@ use lib.ListN.{length, getD}
 use lib.Dec.{leb, eqb}
 use Rattle.wire.specs.Wire.{span, num}
 use Rattle.rules.specs.Rules.{Turned, turned, Row, row, tables, First}
-use Rattle.calendar.specs.Shots.{goodTimeline}
+use Rattle.calendar.specs.Shots.{goodDay, goodTimeline}
 use Rattle.format.specs.Ranges.{satelliteOf, goodArea, goodSize, goodTotal, goodNumber, goodFirst}
 use Rattle.format.specs.Bands.{goodBand, bandOf}
 use Rattle.format.specs.Names.{goodName}
@@ -92,6 +92,13 @@ fields s =
     ∷ [])
     ∷ []
     )
+
+-- a slot, and a film frame number, either day before either timeline: these come from no file
+abbrev pub slotFields : ℕ → ℕ → List Row
+slotFields d t = row (goodDay d) 39 0 0 ∷ row (goodTimeline t) 33 0 0 ∷ []
+
+abbrev pub filmFields : ℕ → ℕ → ℕ → ℕ → List Row
+filmFields d₀ t₀ d t = row (goodDay d₀) 39 0 0 ∷ row (goodDay d) 39 0 0 ∷ row (goodTimeline t₀) 33 0 0 ∷ row (goodTimeline t) 33 0 0 ∷ []
 
 -- what a refusal concerns where these files are looked at one after the other: none of them, with block and offset 0; or one of them, all before which are
 -- accepted, by the first of its fields at fault
