@@ -1,4 +1,4 @@
-/* The structs of hsd.h as x86-64 lays them out, worked out by hand: the library is made without hsd.h, so nothing else compares them. */
+/* The structs of hsd.h as x86-64 lays them out, worked out by hand, and its numbers: the library is made without hsd.h, so nothing else compares them. */
 #include <stdio.h>
 
 #include "hsd.h"
@@ -13,21 +13,22 @@ AT(HsdFile, refusal, 0, 1);
 AT(HsdFile, block, 1, 1);
 AT(HsdFile, satellite, 2, 1);
 AT(HsdFile, quality, 3, 1);
-AT(HsdFile, day, 4, 4);
-AT(HsdFile, timeline, 8, 2);
-AT(HsdFile, band, 10, 2);
-AT(HsdFile, area, 12, 4);
-AT(HsdFile, columns, 16, 2);
-AT(HsdFile, lines, 18, 2);
-AT(HsdFile, number, 20, 1);
-AT(HsdFile, total, 21, 1);
-AT(HsdFile, first_line, 22, 2);
-AT(HsdFile, valid_bits, 24, 2);
-AT(HsdFile, order, 26, 1);
-AT(HsdFile, header_length, 28, 4);
-AT(HsdFile, gain, 32, 8);
-AT(HsdFile, constant, 40, 8);
-WHOLE(HsdFile, 48, 8);
+AT(HsdFile, offset, 4, 4);
+AT(HsdFile, day, 8, 4);
+AT(HsdFile, timeline, 12, 2);
+AT(HsdFile, band, 14, 2);
+AT(HsdFile, area, 16, 4);
+AT(HsdFile, columns, 20, 2);
+AT(HsdFile, lines, 22, 2);
+AT(HsdFile, number, 24, 1);
+AT(HsdFile, total, 25, 1);
+AT(HsdFile, first_line, 26, 2);
+AT(HsdFile, valid_bits, 28, 2);
+AT(HsdFile, order, 30, 1);
+AT(HsdFile, header_length, 32, 4);
+AT(HsdFile, gain, 40, 8);
+AT(HsdFile, constant, 48, 8);
+WHOLE(HsdFile, 56, 8);
 
 AT(HsdReading, radiance, 0, 8);
 AT(HsdReading, kind, 8, 1);
@@ -45,6 +46,7 @@ WHOLE(HsdQuality, 8, 1);
 
 AT(HsdFrameNumber, refusal, 0, 1);
 AT(HsdFrameNumber, block, 1, 1);
+AT(HsdFrameNumber, offset, 4, 4);
 AT(HsdFrameNumber, number, 8, 8);
 WHOLE(HsdFrameNumber, 16, 8);
 
@@ -60,16 +62,61 @@ WHOLE(HsdSlate, 20, 4);
 
 AT(HsdAnswer, refusal, 0, 1);
 AT(HsdAnswer, block, 1, 1);
-WHOLE(HsdAnswer, 2, 1);
+AT(HsdAnswer, offset, 4, 4);
+WHOLE(HsdAnswer, 8, 4);
 
 AT(HsdReel, refusal, 0, 1);
 AT(HsdReel, block, 1, 1);
 AT(HsdReel, files, 2, 2);
-WHOLE(HsdReel, 4, 2);
+AT(HsdReel, offset, 4, 4);
+WHOLE(HsdReel, 8, 4);
 
 AT(HsdPart, offset, 0, 4);
 AT(HsdPart, length, 4, 4);
 WHOLE(HsdPart, 8, 4);
+
+/* All that hsd.h has, as host/ctest/run makes sure: 7 is nothing's number. */
+#define NUMBERED(name, number) _Static_assert(name == (number), #name)
+
+NUMBERED(HSD_FINE, 0);
+NUMBERED(HSD_SHORT, 1);
+NUMBERED(HSD_NUMBER, 2);
+NUMBERED(HSD_ORDER, 3);
+NUMBERED(HSD_LENGTH, 4);
+NUMBERED(HSD_FIXED, 5);
+NUMBERED(HSD_PACKED, 6);
+NUMBERED(HSD_HEADER_SUM, 8);
+NUMBERED(HSD_DATA_SUM, 9);
+NUMBERED(HSD_NAME, 10);
+NUMBERED(HSD_CUT, 11);
+NUMBERED(HSD_TAIL, 12);
+NUMBERED(HSD_SLATE, 13);
+NUMBERED(HSD_STRIP, 14);
+NUMBERED(HSD_OTHER_SHOT, 15);
+NUMBERED(HSD_ALREADY, 16);
+NUMBERED(HSD_ROOM, 17);
+NUMBERED(HSD_REEL, 18);
+NUMBERED(HSD_SATELLITE_FIELD, 31);
+NUMBERED(HSD_AREA_FIELD, 32);
+NUMBERED(HSD_TIMELINE_FIELD, 33);
+NUMBERED(HSD_SIZE_FIELD, 34);
+NUMBERED(HSD_COMPRESSION_FIELD, 35);
+NUMBERED(HSD_BAND_FIELD, 36);
+NUMBERED(HSD_BITS_FIELD, 37);
+NUMBERED(HSD_SEGMENT_FIELD, 38);
+NUMBERED(HSD_DAY_FIELD, 39);
+
+NUMBERED(HSD_RADIANCE, 0);
+NUMBERED(HSD_ERROR_PIXEL, 1);
+NUMBERED(HSD_OUTSIDE, 2);
+NUMBERED(HSD_OVER_RANGE, 3);
+NUMBERED(HSD_UNCALIBRATED, 4);
+
+NUMBERED(HSD_NO, 0);
+NUMBERED(HSD_YES, 1);
+NUMBERED(HSD_NOT_KNOWN, 2);
+
+NUMBERED(HSD_MARKS, 99);
 
 int main(void)
 {
