@@ -66,7 +66,7 @@ static void check_artists_hour(void)
 
 static bool numbers(HsdFrameNumber given, uint8_t refusal, int64_t number)
 {
-    return given.refusal == refusal && given.block == 0 && given.number == number;
+    return given.refusal == refusal && given.block == 0 && given.offset == 0 && given.number == number;
 }
 
 static void check_frame_numbers(void)
@@ -76,11 +76,87 @@ static void check_frame_numbers(void)
     CHECK(numbers(hsd_frame_number(57210, 200, 57210, 200), HSD_FINE, 0));
     CHECK(numbers(hsd_frame_number(51544, 0, 88068, 2350), HSD_FINE, 5259599));
     CHECK(numbers(hsd_frame_number(88068, 2350, 51544, 0), HSD_FINE, -5259599));
-    CHECK(numbers(hsd_frame_number(51543, 0, 57210, 0), HSD_FIELD, 0));
-    CHECK(numbers(hsd_frame_number(57210, 0, 88069, 0), HSD_FIELD, 0));
-    CHECK(numbers(hsd_frame_number(57210, 2400, 57210, 0), HSD_FIELD, 0));
-    CHECK(numbers(hsd_frame_number(57210, 0, 57210, 60), HSD_FIELD, 0));
-    CHECK(numbers(hsd_frame_number(57210, 0, 57210, 5), HSD_FIELD, 0));
+    CHECK(numbers(hsd_frame_number(51543, 0, 57210, 0), HSD_DAY_FIELD, 0));
+    CHECK(numbers(hsd_frame_number(57210, 0, 88069, 0), HSD_DAY_FIELD, 0));
+    CHECK(numbers(hsd_frame_number(57210, 2400, 57210, 0), HSD_TIMELINE_FIELD, 0));
+    CHECK(numbers(hsd_frame_number(57210, 0, 57210, 60), HSD_TIMELINE_FIELD, 0));
+    CHECK(numbers(hsd_frame_number(57210, 0, 57210, 5), HSD_TIMELINE_FIELD, 0));
+}
+
+/* Every pair of two faults: either day answers before either timeline. */
+static void check_two_faults(void)
+{
+    CHECK(numbers(hsd_frame_number(51543, 2400, 57210, 0), HSD_DAY_FIELD, 0));
+    CHECK(numbers(hsd_frame_number(51543, 0, 88069, 0), HSD_DAY_FIELD, 0));
+    CHECK(numbers(hsd_frame_number(51543, 0, 57210, 2400), HSD_DAY_FIELD, 0));
+    CHECK(numbers(hsd_frame_number(57210, 2400, 88069, 0), HSD_DAY_FIELD, 0));
+    CHECK(numbers(hsd_frame_number(57210, 2400, 57210, 60), HSD_TIMELINE_FIELD, 0));
+    CHECK(numbers(hsd_frame_number(57210, 0, 88069, 2400), HSD_DAY_FIELD, 0));
+}
+
+static bool is_day(uint32_t day)
+{
+    return day >= 51544 && day <= 88068;
+}
+
+static bool is_timeline(uint16_t timeline)
+{
+    return timeline / 100 <= 23 && timeline % 100 <= 50 && timeline % 10 == 0;
+}
+
+static int64_t slot(uint32_t day, uint16_t timeline)
+{
+    return (int64_t)day * 144 + timeline / 100 * 6 + timeline % 100 / 10;
+}
+
+/* The judge: what document 01 and ask 3 say of four numbers, and whether that is what is given. */
+static bool is_judged(uint32_t first_day, uint16_t first_timeline, uint32_t day, uint16_t timeline)
+{
+    HsdFrameNumber given = hsd_frame_number(first_day, first_timeline, day, timeline);
+    if (!is_day(first_day) || !is_day(day))
+        return numbers(given, HSD_DAY_FIELD, 0);
+    if (!is_timeline(first_timeline) || !is_timeline(timeline))
+        return numbers(given, HSD_TIMELINE_FIELD, 0);
+    return numbers(given, HSD_FINE, slot(day, timeline) - slot(first_day, first_timeline));
+}
+
+/* Good numbers and bad ones around every edge, in all four places at once. */
+static void check_edges(void)
+{
+    static const uint32_t days[] = {0, 51543, 51544, 57210, 88068, 88069, 117080, UINT32_MAX};
+    static const uint16_t times[] = {0, 5, 10, 50, 55, 60, 100, 199, 2350, 2360, 2400, UINT16_MAX};
+    enum { DAYS = sizeof days / sizeof *days, TIMES = sizeof times / sizeof *times, SHOTS = DAYS * TIMES };
+    for (size_t i = 0; i < SHOTS; i++)
+        for (size_t j = 0; j < SHOTS; j++)
+            CHECK(is_judged(days[i / TIMES], times[i % TIMES], days[j / TIMES], times[j % TIMES]));
+}
+
+static uint64_t state = 20150707;
+
+static uint32_t any(uint32_t below)
+{
+    state = state * 6364136223846793005U + 1442695040888963407U;
+    return (uint32_t)((state >> 32) % below);
+}
+
+/* Mostly good ones: else a bad day would nearly always answer. */
+static uint32_t any_day(void)
+{
+    return any(8) ? 51544 + any(36525) : any(2) ? 51534 + any(36545) : any(UINT32_MAX);
+}
+
+static uint16_t any_timeline(void)
+{
+    return (uint16_t)(any(8) ? 100 * any(24) + 10 * any(6) : any(2) ? any(2500) : any(65536));
+}
+
+static void check_any_shots(void)
+{
+    for (unsigned i = 0; i < 20000; i++) {
+        uint32_t first_day = any_day(), day = any_day();
+        uint16_t first_timeline = any_timeline(), timeline = any_timeline();
+        CHECK(is_judged(first_day, first_timeline, day, timeline));
+    }
 }
 
 /* Whether a month has this day, by the almanac. */
@@ -121,6 +197,9 @@ int main(void)
     check_quality();
     check_artists_hour();
     check_frame_numbers();
+    check_two_faults();
+    check_edges();
+    check_any_shots();
     check_days();
     check_valid_bits();
     return checked("values");
