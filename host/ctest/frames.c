@@ -29,15 +29,14 @@ static void check_files(void)
 {
     Bytes good = sample("good-1"), tail = sample("good-1");
     HsdFile f = hsd_accept(good.bytes, good.length);
-    CHECK(f.refusal == HSD_FINE && f.block == 0 && f.satellite == 8 && f.day == 57210 && f.timeline == 200);
+    CHECK(f.refusal == HSD_FINE && f.block == 0 && f.offset == 0 && f.satellite == 8 && f.day == 57210 && f.timeline == 200);
     CHECK(f.band == 13 && f.area == HSD_AREA('F', 'L', 'D', 'K') && f.columns == 4 && f.lines == 2);
     CHECK(f.number == 1 && f.total == 2 && f.first_line == 1 && f.valid_bits == 12 && f.order == 1);
     CHECK(f.header_length == 1463 && f.gain == 0.5 && f.constant == -1 && f.quality == good.bytes[78]);
     tail.length++;
-    f = hsd_accept(tail.bytes, tail.length);
-    CHECK(f.refusal == HSD_TAIL && f.block == 12 && f.satellite == 0 && f.day == 0 && f.area == 0 && f.gain == 0);
-    f = hsd_accept(good.bytes, 0);
-    CHECK(f.refusal == HSD_SHORT && f.block == 1 && f.header_length == 0 && f.order == 0 && f.constant == 0);
+    CHECK(says_only(hsd_accept(tail.bytes, tail.length), HSD_TAIL, 12, 1463));
+    CHECK(says_only(hsd_accept(good.bytes, good.length - 1), HSD_CUT, 12, 1463));
+    CHECK(says_only(hsd_accept(good.bytes, 0), HSD_SHORT, 1, 0));
 }
 
 /* Slates with one part out of its range. */
@@ -58,8 +57,8 @@ static void check_slates(void)
     for (size_t i = 0; i < sizeof bad / sizeof *bad; i++) {
         State state = {{0}, {0}}, before = state;
         Bytes file = sample("segment-1");
-        CHECK(is(open_for(bad[i], &state, HSD_MARKS, SIZE), HSD_SLATE, 0));
-        CHECK(is(offer_to(bad[i], &state, HSD_MARKS, SIZE, &file), HSD_SLATE, 0));
+        CHECK(is(open_for(bad[i], &state, HSD_MARKS, SIZE), HSD_SLATE, 0, 0));
+        CHECK(is(offer_to(bad[i], &state, HSD_MARKS, SIZE, &file), HSD_SLATE, 0, 0));
         CHECK(memcmp(&state, &before, sizeof state) == 0);
     }
 }
@@ -69,31 +68,31 @@ static void check_refused_state(void)
 {
     State state = {{0}, {0}}, before = state;
     Bytes file = sample("segment-1");
-    CHECK(is(open_for(slate, &state, HSD_MARKS - 1, SIZE), HSD_SLATE, 0));
-    CHECK(is(open_for(slate, &state, 0, SIZE), HSD_SLATE, 0));
-    CHECK(is(open_for(slate, &state, HSD_MARKS, SIZE - 1), HSD_STRIP, 0));
-    CHECK(is(open_for(slate, &state, HSD_MARKS, SIZE + 1), HSD_STRIP, 0));
-    CHECK(is(open_for(slate, &state, HSD_MARKS, 0), HSD_STRIP, 0));
-    CHECK(is(offer_to(slate, &state, HSD_MARKS - 1, SIZE, &file), HSD_SLATE, 0));
-    CHECK(is(offer_to(slate, &state, HSD_MARKS, SIZE - 1, &file), HSD_STRIP, 0));
+    CHECK(is(open_for(slate, &state, HSD_MARKS - 1, SIZE), HSD_SLATE, 0, 0));
+    CHECK(is(open_for(slate, &state, 0, SIZE), HSD_SLATE, 0, 0));
+    CHECK(is(open_for(slate, &state, HSD_MARKS, SIZE - 1), HSD_STRIP, 0, 0));
+    CHECK(is(open_for(slate, &state, HSD_MARKS, SIZE + 1), HSD_STRIP, 0, 0));
+    CHECK(is(open_for(slate, &state, HSD_MARKS, 0), HSD_STRIP, 0, 0));
+    CHECK(is(offer_to(slate, &state, HSD_MARKS - 1, SIZE, &file), HSD_SLATE, 0, 0));
+    CHECK(is(offer_to(slate, &state, HSD_MARKS, SIZE - 1, &file), HSD_STRIP, 0, 0));
     CHECK(memcmp(&state, &before, sizeof state) == 0);
     before.marks[0] = state.marks[0] = 2;
-    CHECK(is(offer_to(slate, &state, HSD_MARKS, SIZE, &file), HSD_SLATE, 0));
+    CHECK(is(offer_to(slate, &state, HSD_MARKS, SIZE, &file), HSD_SLATE, 0, 0));
     CHECK(memcmp(&state, &before, sizeof state) == 0);
     before.marks[0] = state.marks[0] = 0;
     before.marks[TOTAL] = state.marks[TOTAL] = 1;
-    CHECK(is(offer_to(slate, &state, HSD_MARKS, SIZE, &file), HSD_SLATE, 0));
+    CHECK(is(offer_to(slate, &state, HSD_MARKS, SIZE, &file), HSD_SLATE, 0, 0));
     CHECK(memcmp(&state, &before, sizeof state) == 0);
 }
 
 /* A file that is refused leaves everything as it was. */
-static void check_refused_file(State *state, const char *name, size_t length, uint8_t refusal, uint8_t block)
+static void check_refused_file(State *state, const char *name, size_t length, uint8_t refusal, uint8_t block, uint32_t offset)
 {
     State before = *state;
     Bytes file = sample(name);
     if (length)
         file.length = length;
-    CHECK(is(offer_to(slate, state, HSD_MARKS, SIZE, &file), refusal, block));
+    CHECK(is(offer_to(slate, state, HSD_MARKS, SIZE, &file), refusal, block, offset));
     CHECK(memcmp(state, &before, sizeof before) == 0);
 }
 
@@ -109,7 +108,7 @@ static void check_placed(State *state, const char *name, unsigned number)
             (uint16_t)(says.order ? count[0] << 8 | count[1] : count[1] << 8 | count[0]);
     }
     expected.marks[number - 1] = 1;
-    CHECK(is(offer_to(slate, state, HSD_MARKS, SIZE, &file), HSD_FINE, 0));
+    CHECK(is(offer_to(slate, state, HSD_MARKS, SIZE, &file), HSD_FINE, 0, 0));
     CHECK(memcmp(state, &expected, sizeof expected) == 0);
 }
 
@@ -128,7 +127,7 @@ static void check_any_marks(State *state)
     for (int mark = 0; mark < 256; mark++) {
         memset(state->marks, mark, HSD_MARKS);
         state->frame[0] = 0;
-        CHECK(is(open_for(slate, state, HSD_MARKS, SIZE), HSD_FINE, 0));
+        CHECK(is(open_for(slate, state, HSD_MARKS, SIZE), HSD_FINE, 0, 0));
         CHECK(is_opened(state));
     }
 }
@@ -179,16 +178,16 @@ static void check_lines(const State *state)
 static void check_frame(void)
 {
     State state = {{0}, {0}};
-    CHECK(is(open_for(slate, &state, HSD_MARKS, SIZE), HSD_FINE, 0));
+    CHECK(is(open_for(slate, &state, HSD_MARKS, SIZE), HSD_FINE, 0, 0));
     CHECK(is_opened(&state));
     check_placed(&state, "segment-3", 3);
-    check_refused_file(&state, "stray-late", 0, HSD_OTHER_SHOT, 0);
-    check_refused_file(&state, "stray-day", 0, HSD_OTHER_SHOT, 0);
-    check_refused_file(&state, "good-0", 0, HSD_OTHER_SHOT, 0);
+    check_refused_file(&state, "stray-late", 0, HSD_OTHER_SHOT, 0, 0);
+    check_refused_file(&state, "stray-day", 0, HSD_OTHER_SHOT, 0, 0);
+    check_refused_file(&state, "good-0", 0, HSD_OTHER_SHOT, 0, 0);
     check_placed(&state, "segment-1", 1);
-    check_refused_file(&state, "segment-3", 0, HSD_ALREADY, 0);
-    check_refused_file(&state, "segment-2", 1000, HSD_SHORT, 6);
-    check_refused_file(&state, "segment-2", 1800, HSD_CUT, 12);
+    check_refused_file(&state, "segment-3", 0, HSD_ALREADY, 0, 0);
+    check_refused_file(&state, "segment-2", 1000, HSD_SHORT, 6, 745);
+    check_refused_file(&state, "segment-2", 1800, HSD_CUT, 12, 1463);
     check_lines(&state);
     check_placed(&state, "segment-4", 4);
     check_placed(&state, "segment-2", 2);

@@ -1,19 +1,16 @@
 /* Reels from C, beside a plain writer of the test's own, over the files of the samples: their folder is the argument. */
-#include <string.h>
-#include <sys/mman.h>
 #include <sys/resource.h>
 
+#include "memory.h"
 #include "samples.h"
+#include "trailer.h"
 
 enum {
     MOST = 255,
-    ENTRY = 8,
-    END = 9, /* bytes of a trailer after its entries */
     LENGTHS = 70000,
     FILES_ROOM = (MOST + 1) * ROOM,
     REEL_ROOM = FILES_ROOM + (MOST + 1) * ENTRY + END,
-    MEMORY = 1 << 20,
-    GUARD = 1 << 16
+    COUNTS = 1463 /* where the counts start in the good files: none of them has entries */
 };
 
 static const uint64_t LIMIT = (uint64_t)1 << 32;
@@ -33,24 +30,22 @@ typedef struct Reel {
     uint8_t *trailer;
 } Reel;
 
-typedef HsdAnswer Writer(const uint8_t *files, size_t files_length, const uint32_t *lengths, size_t lengths_length, uint8_t *out,
-                         size_t out_length);
-
 /* Lists that have one reel, and lists with a bad file: the first bad one answers. A file is named by a letter. */
 static const char *const sound[] = {"1", "b", "12", "2ab431", NULL};
 static const struct {
     const char *letters;
     uint8_t refusal, block;
+    uint32_t offset;
 } faulty[] = {
-    {"n", HSD_NUMBER, 1},   {"n12", HSD_NUMBER, 1}, {"1n2", HSD_NUMBER, 1}, {"12n", HSD_NUMBER, 1}, {"c", HSD_CUT, 12},
-    {"c34", HSD_CUT, 12},   {"3c4", HSD_CUT, 12},   {"34c", HSD_CUT, 12},   {"ab1t", HSD_TAIL, 12}, {"1cn", HSD_CUT, 12},
-    {"1nc", HSD_NUMBER, 1}, {"t2n", HSD_TAIL, 12},  {"n2t", HSD_NUMBER, 1}, {"0", HSD_SHORT, 1},    {"00", HSD_SHORT, 1},
-    {"012", HSD_SHORT, 1},  {"102", HSD_SHORT, 1},  {"120", HSD_SHORT, 1},  {"10n", HSD_SHORT, 1},  {"1n0", HSD_NUMBER, 1}};
+    {"n", HSD_NUMBER, 1, 0},       {"n12", HSD_NUMBER, 1, 0},      {"1n2", HSD_NUMBER, 1, 0},      {"12n", HSD_NUMBER, 1, 0},
+    {"c", HSD_CUT, 12, COUNTS},    {"c34", HSD_CUT, 12, COUNTS},   {"3c4", HSD_CUT, 12, COUNTS},   {"34c", HSD_CUT, 12, COUNTS},
+    {"ab1t", HSD_TAIL, 12, COUNTS}, {"1cn", HSD_CUT, 12, COUNTS},  {"1nc", HSD_NUMBER, 1, 0},      {"t2n", HSD_TAIL, 12, COUNTS},
+    {"n2t", HSD_NUMBER, 1, 0},     {"0", HSD_SHORT, 1, 0},         {"00", HSD_SHORT, 1, 0},        {"012", HSD_SHORT, 1, 0},
+    {"102", HSD_SHORT, 1, 0},      {"120", HSD_SHORT, 1, 0},       {"10n", HSD_SHORT, 1, 0},       {"1n0", HSD_NUMBER, 1, 0}};
 enum { FAULTY = sizeof faulty / sizeof *faulty };
 
 static char most[MOST + 2]; /* the letters of a list of 255 files */
 static Bytes kinds[128];
-static uint8_t *end_of_memory; /* what stands behind it cannot be read */
 static List list;
 static Reel reel;
 
@@ -84,45 +79,13 @@ static void make_list(const char *letters)
     }
 }
 
-/* The low 32 bits, little-endian. */
-static void put(uint8_t *to, uint64_t number)
-{
-    for (int i = 0; i < 4; i++)
-        to[i] = (uint8_t)(number >> 8 * i);
-}
-
-static void put_entry(uint8_t *trailer, size_t number, uint64_t offset, uint64_t length)
-{
-    put(trailer + (number - 1) * ENTRY, offset);
-    put(trailer + (number - 1) * ENTRY + 4, length);
-}
-
-static void put_end(uint8_t *to, size_t files, uint64_t trailer)
-{
-    to[0] = (uint8_t)files;
-    put(to + 1, trailer);
-    memcpy(to + 5, "REEL", 4);
-}
-
-/* The plain writer: the list's trailer, and how long it is. */
-static size_t put_trailer(uint8_t *to)
-{
-    uint64_t offset = 0;
-    for (size_t i = 0; i < list.count; i++) {
-        put_entry(to, i + 1, offset, list.lengths[i]);
-        offset += list.lengths[i];
-    }
-    put_end(to + list.count * ENTRY, list.count, offset);
-    return list.count * ENTRY + END;
-}
-
 static void make_reel(const char *letters)
 {
     make_list(letters);
     memset(&reel, 0, sizeof reel);
     memcpy(reel.bytes, list.files, list.size);
     reel.trailer = reel.bytes + list.size;
-    reel.length = list.size + put_trailer(reel.trailer);
+    reel.length = list.size + put_trailer(reel.trailer, list.lengths, list.count);
 }
 
 /* How much of the files a writer writes: all of them, or nothing before the trailer. */
@@ -137,7 +100,7 @@ static size_t needed(Writer *writer)
 }
 
 /* A writer's answer to the list; what it writes when that is fine, and that all else stays. */
-static bool gives(Writer *writer, size_t room, uint8_t refusal, uint8_t block)
+static bool gives(Writer *writer, size_t room, uint8_t refusal, uint8_t block, uint32_t offset)
 {
     static uint8_t out[REEL_ROOM + ROOM], wanted[sizeof out];
     static List before;
@@ -146,22 +109,22 @@ static bool gives(Writer *writer, size_t room, uint8_t refusal, uint8_t block)
     memset(wanted, 0xa5, sizeof out);
     if (refusal == HSD_FINE) {
         memcpy(wanted + 1, list.files, written_files(writer));
-        put_trailer(wanted + 1 + written_files(writer));
+        put_trailer(wanted + 1 + written_files(writer), list.lengths, list.count);
     }
     HsdAnswer answer = writer(list.files, list.size, list.lengths, list.count, out + 1, room);
-    return is(answer, refusal, block) && memcmp(out, wanted, sizeof out) == 0 && memcmp(&before, &list, sizeof list) == 0;
+    return is(answer, refusal, block, offset) && memcmp(out, wanted, sizeof out) == 0 && memcmp(&before, &list, sizeof list) == 0;
 }
 
 static void check_written(Writer *writer, const char *letters)
 {
     make_list(letters);
-    CHECK(gives(writer, needed(writer), HSD_FINE, 0));
-    CHECK(gives(writer, needed(writer) + 1, HSD_FINE, 0));
-    CHECK(gives(writer, needed(writer) + ROOM - 1, HSD_FINE, 0));
-    CHECK(gives(writer, needed(writer) - 1, HSD_ROOM, 0));
-    CHECK(gives(writer, needed(writer) - END, HSD_ROOM, 0));
-    CHECK(gives(writer, written_files(writer), HSD_ROOM, 0));
-    CHECK(gives(writer, 0, HSD_ROOM, 0));
+    CHECK(gives(writer, needed(writer), HSD_FINE, 0, 0));
+    CHECK(gives(writer, needed(writer) + 1, HSD_FINE, 0, 0));
+    CHECK(gives(writer, needed(writer) + ROOM - 1, HSD_FINE, 0, 0));
+    CHECK(gives(writer, needed(writer) - 1, HSD_ROOM, 0, 0));
+    CHECK(gives(writer, needed(writer) - END, HSD_ROOM, 0, 0));
+    CHECK(gives(writer, written_files(writer), HSD_ROOM, 0, 0));
+    CHECK(gives(writer, 0, HSD_ROOM, 0, 0));
 }
 
 /* Lengths that add up, but none or too many of them; cut to 8 or 16 bits some of these numbers would be fine. */
@@ -171,15 +134,15 @@ static void check_counts(Writer *writer)
     for (size_t i = 0; i < sizeof counts / sizeof *counts; i++) {
         make_list("12");
         list.count = counts[i];
-        CHECK(gives(writer, REEL_ROOM, HSD_REEL, 0));
-        CHECK(gives(writer, 0, HSD_REEL, 0));
+        CHECK(gives(writer, REEL_ROOM, HSD_REEL, 0, 0));
+        CHECK(gives(writer, 0, HSD_REEL, 0, 0));
     }
     make_list("");
-    CHECK(gives(writer, REEL_ROOM, HSD_REEL, 0));
+    CHECK(gives(writer, REEL_ROOM, HSD_REEL, 0, 0));
     most[MOST] = '1';
     make_list(most);
     most[MOST] = 0;
-    CHECK(list.count == 256 && gives(writer, REEL_ROOM, HSD_REEL, 0));
+    CHECK(list.count == 256 && gives(writer, REEL_ROOM, HSD_REEL, 0, 0));
 }
 
 /* Lengths or bytes that are so much off; where they still add up the first file ends too late or too early. */
@@ -188,16 +151,18 @@ static void check_sums(Writer *writer)
     static const struct {
         int first, second, size;
         uint8_t refusal, block;
-    } off[] = {{1, 0, 0, HSD_REEL, 0},   {-1, 0, 0, HSD_REEL, 0},   {0, 1, 0, HSD_REEL, 0},  {0, -1, 0, HSD_REEL, 0},
-               {0, 0, 1, HSD_REEL, 0},   {0, 0, -1, HSD_REEL, 0},   {1, 1, -2, HSD_REEL, 0}, {256, 0, 0, HSD_REEL, 0},
-               {1, -1, 0, HSD_TAIL, 12}, {-1, 1, 0, HSD_CUT, 12}};
+        uint32_t offset;
+    } off[] = {{1, 0, 0, HSD_REEL, 0, 0},        {-1, 0, 0, HSD_REEL, 0, 0},      {0, 1, 0, HSD_REEL, 0, 0},
+               {0, -1, 0, HSD_REEL, 0, 0},       {0, 0, 1, HSD_REEL, 0, 0},       {0, 0, -1, HSD_REEL, 0, 0},
+               {1, 1, -2, HSD_REEL, 0, 0},       {256, 0, 0, HSD_REEL, 0, 0},     {1, -1, 0, HSD_TAIL, 12, COUNTS},
+               {-1, 1, 0, HSD_CUT, 12, COUNTS}};
     for (size_t i = 0; i < sizeof off / sizeof *off; i++) {
         make_list("12");
         list.lengths[0] += (uint32_t)off[i].first;
         list.lengths[1] += (uint32_t)off[i].second;
         list.size += (size_t)(ptrdiff_t)off[i].size;
-        CHECK(gives(writer, REEL_ROOM, off[i].refusal, off[i].block));
-        CHECK(gives(writer, 0, off[i].refusal, off[i].block));
+        CHECK(gives(writer, REEL_ROOM, off[i].refusal, off[i].block, off[i].offset));
+        CHECK(gives(writer, 0, off[i].refusal, off[i].block, off[i].offset));
     }
 }
 
@@ -207,11 +172,11 @@ static void check_wrapped_sums(Writer *writer)
     make_list("12");
     list.lengths[0] = UINT32_MAX;
     list.lengths[1] = (uint32_t)list.size + 1;
-    CHECK(gives(writer, REEL_ROOM, HSD_REEL, 0));
+    CHECK(gives(writer, REEL_ROOM, HSD_REEL, 0, 0));
     make_list("123");
     list.lengths[1] = UINT32_MAX;
     list.lengths[2] = (uint32_t)list.size - list.lengths[0] + 1;
-    CHECK(gives(writer, REEL_ROOM, HSD_REEL, 0));
+    CHECK(gives(writer, REEL_ROOM, HSD_REEL, 0, 0));
 }
 
 /* What is wrong with the list answers before a bad file does, and the room for the reel after it. */
@@ -219,12 +184,12 @@ static void check_order(Writer *writer)
 {
     for (size_t i = 0; i < FAULTY; i++) {
         make_list(faulty[i].letters);
-        CHECK(gives(writer, REEL_ROOM, faulty[i].refusal, faulty[i].block));
-        CHECK(gives(writer, needed(writer) - 1, faulty[i].refusal, faulty[i].block));
-        CHECK(gives(writer, 0, faulty[i].refusal, faulty[i].block));
+        CHECK(gives(writer, REEL_ROOM, faulty[i].refusal, faulty[i].block, faulty[i].offset));
+        CHECK(gives(writer, needed(writer) - 1, faulty[i].refusal, faulty[i].block, faulty[i].offset));
+        CHECK(gives(writer, 0, faulty[i].refusal, faulty[i].block, faulty[i].offset));
         list.lengths[list.count - 1]++;
-        CHECK(gives(writer, REEL_ROOM, HSD_REEL, 0));
-        CHECK(gives(writer, 0, HSD_REEL, 0));
+        CHECK(gives(writer, REEL_ROOM, HSD_REEL, 0, 0));
+        CHECK(gives(writer, 0, HSD_REEL, 0, 0));
     }
 }
 
@@ -239,22 +204,26 @@ static void check_writer(Writer *writer)
     check_order(writer);
 }
 
-/* Bytes are lent at the end of memory, so that reading beyond them is seen, and must stay as they are. */
-static const uint8_t *lend(const uint8_t *bytes, size_t length)
-{
-    return memcpy(end_of_memory - length, bytes, length);
-}
-
-static bool opens(const uint8_t *bytes, size_t length, uint8_t refusal, uint8_t block, size_t files)
+static bool opens_as(const uint8_t *bytes, size_t length, HsdAnswer wanted, size_t files)
 {
     const uint8_t *lent = lend(bytes, length);
     HsdReel answer = hsd_reel_open(lent, length);
-    return answer.refusal == refusal && answer.block == block && answer.files == files && memcmp(lent, bytes, length) == 0;
+    return is_reel(answer, wanted.refusal, wanted.block, wanted.offset, files) && memcmp(lent, bytes, length) == 0;
+}
+
+static bool opens(const uint8_t *bytes, size_t length, size_t files)
+{
+    return opens_as(bytes, length, (HsdAnswer){HSD_FINE, 0, 0}, files);
+}
+
+static bool refuses(const uint8_t *bytes, size_t length, uint8_t refusal, uint8_t block, uint32_t offset)
+{
+    return opens_as(bytes, length, (HsdAnswer){refusal, block, offset}, 0);
 }
 
 static bool is_refused(void)
 {
-    return opens(reel.bytes, reel.length, HSD_REEL, 0, 0);
+    return refuses(reel.bytes, reel.length, HSD_REEL, 0, 0);
 }
 
 static bool shows(const uint8_t *bytes, size_t length, size_t number, uint64_t offset, uint64_t part_length)
@@ -300,20 +269,20 @@ static void check_trailer_bytes(void)
 /* The reel with a byte more or less, at its front or its end. */
 static void check_ends(void)
 {
-    CHECK(opens(reel.bytes, reel.length - 1, HSD_REEL, 0, 0));
-    CHECK(opens(reel.bytes + 1, reel.length - 1, HSD_REEL, 0, 0));
-    CHECK(opens(reel.bytes, reel.length + 1, HSD_REEL, 0, 0));
+    CHECK(refuses(reel.bytes, reel.length - 1, HSD_REEL, 0, 0));
+    CHECK(refuses(reel.bytes + 1, reel.length - 1, HSD_REEL, 0, 0));
+    CHECK(refuses(reel.bytes, reel.length + 1, HSD_REEL, 0, 0));
     memmove(reel.bytes + 1, reel.bytes, reel.length);
-    CHECK(opens(reel.bytes, reel.length + 1, HSD_REEL, 0, 0));
+    CHECK(refuses(reel.bytes, reel.length + 1, HSD_REEL, 0, 0));
 }
 
 static void check_opened(const char *letters)
 {
     make_reel(letters);
-    CHECK(opens(reel.bytes, reel.length, HSD_FINE, 0, strlen(letters)));
+    CHECK(opens(reel.bytes, reel.length, strlen(letters)));
     check_parts();
     check_trailer_bytes();
-    CHECK(opens(reel.bytes, reel.length, HSD_FINE, 0, strlen(letters)));
+    CHECK(opens(reel.bytes, reel.length, strlen(letters)));
     check_ends();
 }
 
@@ -325,28 +294,29 @@ static void check_entries(void)
     const struct {
         uint64_t offset1, length1, offset2, length2;
         uint8_t refusal, block;
+        uint32_t offset;
     } pairs[] = {
-        {a, b, 0, a, HSD_REEL, 0},                         /* exchanged */
-        {0, a, a - 1, b + 1, HSD_REEL, 0},                 /* overlapping */
-        {0, a + 1, a, b, HSD_REEL, 0},                     /* overlapping */
-        {0, all, 0, all, HSD_REEL, 0},                     /* the same twice */
-        {0, a, a + 1, b - 1, HSD_REEL, 0},                 /* a gap between them */
-        {0, a - 1, a, b, HSD_REEL, 0},                     /* a gap between them */
-        {1, a - 1, a, b, HSD_REEL, 0},                     /* a gap before the first */
-        {0, a, a, b - 1, HSD_REEL, 0},                     /* a gap before the trailer */
-        {0, a, a, b + 1, HSD_REEL, 0},                     /* reaching into the trailer */
-        {0, a, a, b + LIMIT / 2, HSD_REEL, 0},             /* reaching beyond the reel */
-        {0, LIMIT - 1, LIMIT - 1, all + 1, HSD_REEL, 0},   /* tiling in 32 bits alone */
-        {LIMIT - 1, a + 1, a, b, HSD_REEL, 0},             /* tiling in 32 bits alone */
-        {0, 0, 0, all, HSD_SHORT, 1},
-        {0, all, all, 0, HSD_TAIL, 12},
-        {0, a + 1, a + 1, b - 1, HSD_TAIL, 12},
-        {0, a - 1, a - 1, b + 1, HSD_CUT, 12},
+        {a, b, 0, a, HSD_REEL, 0, 0},                        /* exchanged */
+        {0, a, a - 1, b + 1, HSD_REEL, 0, 0},                /* overlapping */
+        {0, a + 1, a, b, HSD_REEL, 0, 0},                    /* overlapping */
+        {0, all, 0, all, HSD_REEL, 0, 0},                    /* the same twice */
+        {0, a, a + 1, b - 1, HSD_REEL, 0, 0},                /* a gap between them */
+        {0, a - 1, a, b, HSD_REEL, 0, 0},                    /* a gap between them */
+        {1, a - 1, a, b, HSD_REEL, 0, 0},                    /* a gap before the first */
+        {0, a, a, b - 1, HSD_REEL, 0, 0},                    /* a gap before the trailer */
+        {0, a, a, b + 1, HSD_REEL, 0, 0},                    /* reaching into the trailer */
+        {0, a, a, b + LIMIT / 2, HSD_REEL, 0, 0},            /* reaching beyond the reel */
+        {0, LIMIT - 1, LIMIT - 1, all + 1, HSD_REEL, 0, 0},  /* tiling in 32 bits alone */
+        {LIMIT - 1, a + 1, a, b, HSD_REEL, 0, 0},            /* tiling in 32 bits alone */
+        {0, 0, 0, all, HSD_SHORT, 1, 0},
+        {0, all, all, 0, HSD_TAIL, 12, COUNTS},
+        {0, a + 1, a + 1, b - 1, HSD_TAIL, 12, COUNTS},
+        {0, a - 1, a - 1, b + 1, HSD_CUT, 12, COUNTS},
     };
     for (size_t i = 0; i < sizeof pairs / sizeof *pairs; i++) {
         put_entry(reel.trailer, 1, pairs[i].offset1, pairs[i].length1);
         put_entry(reel.trailer, 2, pairs[i].offset2, pairs[i].length2);
-        CHECK(opens(reel.bytes, reel.length, pairs[i].refusal, pairs[i].block, 0));
+        CHECK(refuses(reel.bytes, reel.length, pairs[i].refusal, pairs[i].block, pairs[i].offset));
     }
 }
 
@@ -380,16 +350,16 @@ static void check_few_bytes(void)
     for (size_t length = 0; length <= 20; length++) {
         uint8_t bytes[20] = {0};
         make_reel("1");
-        CHECK(opens(reel.bytes + reel.length - length, length, HSD_REEL, 0, 0));
+        CHECK(refuses(reel.bytes + reel.length - length, length, HSD_REEL, 0, 0));
         CHECK(shows(reel.bytes + reel.length - length, length, 1, 0, 0));
-        CHECK(opens(bytes, length, HSD_REEL, 0, 0));
+        CHECK(refuses(bytes, length, HSD_REEL, 0, 0));
         CHECK(shows(bytes, length, 1, 0, 0));
         if (length < END)
             continue;
         put_end(bytes + length - END, 0, length - END);
-        CHECK(opens(bytes, length, HSD_REEL, 0, 0));
+        CHECK(refuses(bytes, length, HSD_REEL, 0, 0));
         put_end(bytes + length - END, MOST, length - END - MOST * ENTRY);
-        CHECK(opens(bytes, length, HSD_REEL, 0, 0));
+        CHECK(refuses(bytes, length, HSD_REEL, 0, 0));
         CHECK(shows(bytes, length, 0, 0, 0));
         CHECK(shows(bytes, length, 1, 0, 0));
     }
@@ -403,10 +373,10 @@ static void check_one_entry(void)
         const size_t length = size + ENTRY + END;
         put_entry(bytes + size, 1, 2, length - 2);
         put_end(bytes + size + ENTRY, 1, size);
-        CHECK(opens(bytes, length, HSD_REEL, 0, 0));
+        CHECK(refuses(bytes, length, HSD_REEL, 0, 0));
         CHECK(shows(bytes, length, 1, 2, length - 2));
         put_entry(bytes + size, 1, 0, size);
-        CHECK(opens(bytes, length, HSD_SHORT, 1, 0));
+        CHECK(refuses(bytes, length, HSD_SHORT, 1, 0));
         CHECK(shows(bytes, length, 1, 0, size));
         memset(bytes + length - 4, 0, 4);
         CHECK(shows(bytes, length, 2, 0, 0));
@@ -462,7 +432,7 @@ static void check_faulty(void)
 {
     for (size_t i = 0; i < FAULTY; i++) {
         make_reel(faulty[i].letters);
-        CHECK(opens(reel.bytes, reel.length, faulty[i].refusal, faulty[i].block, 0));
+        CHECK(refuses(reel.bytes, reel.length, faulty[i].refusal, faulty[i].block, faulty[i].offset));
         check_parts();
         reel.bytes[reel.length - 1]++;
         CHECK(is_refused());
@@ -470,13 +440,14 @@ static void check_faulty(void)
 }
 
 /* A refused file of the samples, after a good one and before another bad one. */
-static void check_refused_file(const char *name, uint8_t refusal, uint8_t block)
+static void check_refused_file(const char *name, uint8_t refusal, uint8_t block, uint32_t offset)
 {
     kinds['x'] = sample(name);
+    CHECK(says_only(hsd_accept(kinds['x'].bytes, kinds['x'].length), refusal, block, offset));
     make_reel("1xn");
-    CHECK(opens(reel.bytes, reel.length, refusal, block, 0));
-    CHECK(gives(hsd_reel_write, REEL_ROOM, refusal, block));
-    CHECK(gives(hsd_reel_seal, REEL_ROOM, refusal, block));
+    CHECK(refuses(reel.bytes, reel.length, refusal, block, offset));
+    CHECK(gives(hsd_reel_write, REEL_ROOM, refusal, block, offset));
+    CHECK(gives(hsd_reel_seal, REEL_ROOM, refusal, block, offset));
 }
 
 static unsigned count_lines(FILE *from)
@@ -495,11 +466,11 @@ static void check_refused(void)
     unsigned lines = from ? count_lines(from) : 0;
     CHECK(lines > 100);
     for (unsigned i = 0; i < lines; i++) {
-        unsigned refusal = 0, block = 0;
+        unsigned refusal = 0, block = 0, offset = 0;
         char name[32];
-        CHECK(fscanf(from, "NO %u %u\n", &refusal, &block) == 2);
+        CHECK(fscanf(from, "NO %u %u %u\n", &refusal, &block, &offset) == 3);
         snprintf(name, sizeof name, "refused-%u-%03u", i / (lines / 2), i % (lines / 2));
-        check_refused_file(name, (uint8_t)refusal, (uint8_t)block);
+        check_refused_file(name, (uint8_t)refusal, (uint8_t)block, offset);
     }
     if (from)
         fclose(from);
@@ -525,8 +496,7 @@ static void check_huge_reel(uint8_t *huge, uint64_t length, uint8_t refusal, uin
     const uint64_t size = length - ENTRY - END;
     put_entry(huge + size, 1, 0, size);
     put_end(huge + size + ENTRY, 1, size);
-    HsdReel answer = hsd_reel_open(huge, length);
-    CHECK(answer.refusal == refusal && answer.block == block && answer.files == 0);
+    CHECK(is_reel(hsd_reel_open(huge, length), refusal, block, 0, 0));
     memset(huge + size, 0, ENTRY + END);
 }
 
@@ -536,8 +506,8 @@ static void check_huge_list(Writer *writer, const uint8_t *huge, uint64_t size, 
     static const uint8_t untouched[ROOM];
     uint8_t out[ROOM] = {0};
     const uint32_t lengths[] = {UINT32_MAX - 1000, (uint32_t)(size - UINT32_MAX + 1000)};
-    CHECK(is(writer(huge, size, lengths, 2, out, ROOM), refusal, block));
-    CHECK(is(writer(huge, size, lengths, 2, out, 0), refusal, block));
+    CHECK(is(writer(huge, size, lengths, 2, out, ROOM), refusal, block, 0));
+    CHECK(is(writer(huge, size, lengths, 2, out, 0), refusal, block, 0));
     CHECK(memcmp(out, untouched, ROOM) == 0);
 }
 
@@ -592,17 +562,6 @@ static void check_huge(void)
     munmap(huge, room);
 }
 
-static bool set_up(const char *samples)
-{
-    folder = samples;
-    load_kinds();
-    uint8_t *memory = mmap(NULL, MEMORY + GUARD, PROT_READ | PROT_WRITE, MAP_PRIVATE | MAP_ANONYMOUS, -1, 0);
-    if (memory == MAP_FAILED)
-        return false;
-    end_of_memory = memory + MEMORY;
-    return mprotect(end_of_memory, GUARD, PROT_NONE) == 0;
-}
-
 static void check_openings(void)
 {
     for (size_t i = 0; sound[i]; i++)
@@ -618,8 +577,10 @@ static void check_openings(void)
 
 int main(int count, char **words)
 {
-    if (count != 2 || !set_up(words[1]))
+    if (count != 2 || !make_memory())
         return 2;
+    folder = words[1];
+    load_kinds();
     check_writer(hsd_reel_write);
     check_writer(hsd_reel_seal);
     check_openings();

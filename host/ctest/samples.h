@@ -1,10 +1,10 @@
-/* What the tests over the samples share: the files of their folder, and the likeness of an answer. */
+/* The files of the samples' folder. */
 #ifndef SAMPLES_H
 #define SAMPLES_H
 
 #include <stdio.h>
 
-#include "hsd.h"
+#include "answers.h"
 #include "test.h"
 
 enum { ROOM = 2048 };
@@ -34,11 +34,6 @@ static inline Bytes sample(const char *name)
         fclose(from);
     }
     return file;
-}
-
-static inline bool is(HsdAnswer answer, uint8_t refusal, uint8_t block)
-{
-    return answer.refusal == refusal && answer.block == block;
 }
 
 #endif
