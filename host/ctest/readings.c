@@ -2,19 +2,9 @@
 #include <float.h>
 #include <string.h>
 
+#include "any.h"
 #include "hsd.h"
 #include "test.h"
-
-static uint64_t state = 20150707;
-
-/* splitmix64 */
-static uint64_t any(void)
-{
-    uint64_t z = state += 0x9e3779b97f4a7c15;
-    z = (z ^ z >> 30) * 0xbf58476d1ce4e5b9;
-    z = (z ^ z >> 27) * 0x94d049bb133111eb;
-    return z ^ z >> 31;
-}
 
 static uint64_t bits_of(double x)
 {

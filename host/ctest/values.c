@@ -2,6 +2,7 @@
 #include <math.h>
 #include <string.h>
 
+#include "any.h"
 #include "hsd.h"
 #include "test.h"
 
@@ -131,23 +132,16 @@ static void check_edges(void)
             CHECK(is_judged(days[i / TIMES], times[i % TIMES], days[j / TIMES], times[j % TIMES]));
 }
 
-static uint64_t state = 20150707;
-
-static uint32_t any(uint32_t below)
-{
-    state = state * 6364136223846793005U + 1442695040888963407U;
-    return (uint32_t)((state >> 32) % below);
-}
-
 /* Mostly good ones: else a bad day would nearly always answer. */
 static uint32_t any_day(void)
 {
-    return any(8) ? 51544 + any(36525) : any(2) ? 51534 + any(36545) : any(UINT32_MAX);
+    return any_below(8) ? 51544 + any_below(36525) : any_below(2) ? 51534 + any_below(36545) : (uint32_t)any();
 }
 
 static uint16_t any_timeline(void)
 {
-    return (uint16_t)(any(8) ? 100 * any(24) + 10 * any(6) : any(2) ? any(2500) : any(65536));
+    uint32_t tens = any_below(24 * 6);
+    return (uint16_t)(any_below(8) ? tens / 6 * 100 + tens % 6 * 10 : any_below(2) ? any_below(2500) : any());
 }
 
 static void check_any_shots(void)
