@@ -48,6 +48,7 @@ pub enum Answer {
 }
 
 // Each of these makes the checks of one table, in the table's order: the refusal's name stands for its number.
+// No block begins at 2,000,000 or beyond, so that its place and its length's are offsets.
 fn check_shape(v: Verdict, s: &[u8], order: u8, block: u8, at: usize, n: u16) -> Verdict
     requires { ⌜ at < 2000000 ⌝ }
     ensures { λ r. ⌜ paper r ≡ judge (paper v) (shape (now (s .entry)) order block at n) ⌝ }
@@ -97,13 +98,8 @@ pub fn check_fields1(v: Verdict, w: Block1) -> Verdict
 {
     let satellite = w.satellite;
     let area = w.area;
-    let v = rules::check(
-        v,
-        format::satellite_of(satellite) != 0,
-        Why::Satellite,
-        1,
-        6,
-    );
+    let good = format::satellite_of(satellite) != 0;
+    let v = rules::check(v, good, Why::Satellite, 1, 6);
     let v = rules::check(v, format::good_area(area), Why::Area, 1, 38);
     rules::check(v, calendar::good_timeline(w.timeline), Why::Timeline, 1, 44)
 }
@@ -142,26 +138,16 @@ pub fn check_fields7(v: Verdict, w: Block7, lines: u16) -> Verdict
     ensures { λ r. ⌜ paper r ≡ judge (paper v) (fields7 w lines) ⌝ }
 {
     let v = rules::check(v, format::good_total(w.total), Why::Segment, 7, 1007);
-    let v = rules::check(
-        v,
-        format::good_number(w.number, w.total),
-        Why::Segment,
-        7,
-        1008,
-    );
+    let good = format::good_number(w.number, w.total);
+    let v = rules::check(v, good, Why::Segment, 7, 1008);
     rules::check(v, format::good_first(w.first, lines), Why::Segment, 7, 1009)
 }
 
 fn check_sums(v: Verdict, s: &[u8], order: u8, front: u32, counts: usize) -> Verdict
     ensures { λ r. ⌜ paper r ≡ judge (paper v) (sums (now (s .entry)) order front counts) ⌝ }
 {
-    let v = rules::check(
-        v,
-        wire::u32_at(s, 70, order) == front,
-        Why::HeaderSum,
-        1,
-        70,
-    );
+    let good = wire::u32_at(s, 70, order) == front;
+    let v = rules::check(v, good, Why::HeaderSum, 1, 70);
     let good = wire::u32_at(s, 74, order) as usize == counts;
     rules::check(v, good, Why::DataSum, 1, 74)
 }

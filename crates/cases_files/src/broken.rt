@@ -26,12 +26,12 @@ pub const BROKEN: [usize; 123] = [
     BIG + set::BITS + 17,
     LITTLE + set::ERROR + 65534,
     BIG + set::ERROR + 65534,
-    // FIELD of block 1, and the last timeline, which the name then contradicts
+    // the fields of block 1, and the last timeline, which the name then contradicts
     LITTLE + set::TIMELINE + 2400,
     BIG + set::TIMELINE + 2400,
     LITTLE + set::TIMELINE + 2350,
     BIG + set::TIMELINE + 2350,
-    // FIELD of block 2, and the largest sizes, which the data sum then contradicts
+    // the fields of block 2, and the largest sizes, which the data sum then contradicts
     LITTLE + set::COLUMNS + 0,
     BIG + set::COLUMNS + 0,
     LITTLE + set::COLUMNS + 22000,
@@ -42,14 +42,14 @@ pub const BROKEN: [usize; 123] = [
     BIG + set::LINES + 22000,
     LITTLE + set::LINES + 22001,
     BIG + set::LINES + 22001,
-    // FIELD of block 5, and a band with the same valid bits, which the name then contradicts
+    // the fields of block 5, and a band with the same valid bits, which the name then contradicts
     LITTLE + set::BAND + 14,
     BIG + set::BAND + 14,
     LITTLE + set::BAND + 17,
     BIG + set::BAND + 17,
     LITTLE + set::VALID + 11,
     BIG + set::VALID + 11,
-    // FIELD of block 7, and the last first line of two
+    // the fields of block 7, and the last first line of two
     LITTLE + set::FIRST + 21999,
     BIG + set::FIRST + 21999,
     LITTLE + set::FIRST + 22000,
@@ -107,21 +107,21 @@ pub const BROKEN: [usize; 123] = [
     LITTLE + set::ERROR + 0,
     BIG + set::OUTSIDE + 65533,
     LITTLE + set::OUTSIDE + 65535,
-    // PACKED, and FIELD for the other flags
+    // PACKED, and the other flags
     LITTLE + set::FLAG + 1,
     BIG + set::FLAG + 2,
     BIG + set::FLAG + 3,
     BIG + set::FLAG + 255,
-    // FIELD: lines
+    // lines
     LITTLE + set::LINES + 0,
-    // FIELD: satellite, its digit, a letter, the first and the last of its zeros; the first is a good one, which the name then contradicts
+    // satellite, its digit, a letter, the first and the last of its zeros; the first is a good one, which the name then contradicts
     LITTLE + set::SATELLITE + 9,
     LITTLE + set::SATELLITE + 7,
     BIG + set::BYTE + 15 * PLACE + 0x3a,
     LITTLE + set::BYTE + 6 * PLACE + 0x68,
     LITTLE + set::BYTE + 16 * PLACE + 0x20,
     BIG + set::BYTE + 21 * PLACE + 0x01,
-    // FIELD: area, beside each series, and a small letter; the first is a good one, which the name then contradicts
+    // area, beside each series, and a small letter; the first is a good one, which the name then contradicts
     LITTLE + set::AREA + plan::JP01,
     LITTLE + set::AREA + plan::JP00,
     BIG + set::AREA + plan::JP05,
@@ -132,18 +132,18 @@ pub const BROKEN: [usize; 123] = [
     LITTLE + set::AREA + plan::R500,
     BIG + set::AREA + plan::R521,
     BIG + set::BYTE + 38 * PLACE + 0x66,
-    // FIELD: timeline
+    // timeline
     LITTLE + set::TIMELINE + 5,
     BIG + set::TIMELINE + 60,
     LITTLE + set::TIMELINE + 2360,
-    // FIELD: a band below the first, bands that have other valid bits than the file's 12, and other valid bits
+    // a band below the first, bands that have other valid bits than the file's 12, and other valid bits
     BIG + set::BAND + 0,
     LITTLE + set::BAND + 7,
     BIG + set::BAND + 9,
     LITTLE + set::BAND + 16,
     BIG + set::VALID + 14,
     LITTLE + set::VALID + 13,
-    // FIELD: segment total, number and first line, and good ones, which the name then contradicts
+    // segment total, number and first line, and good ones, which the name then contradicts
     LITTLE + set::TOTAL + 0,
     BIG + set::TOTAL + 1,
     LITTLE + set::TOTAL + 99,

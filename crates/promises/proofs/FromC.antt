@@ -55,15 +55,15 @@ of-read-count κ a r t p κ′ b y u q ec en =
     let e : r ≡ shownReading y = p ∙ ap shownReading (sym (q ∙ (λ i. readingOf (ec i) (en i)))) in
     rw e (kind y)
 
--- a film number, or its refusal's number and block
+-- a film number, or its refusal
 abbrev Film : FilmFrame → HsdFrameNumber → Type 0
-Film (film.Number n) r = (r .refusal ≡ 0) × (r .block ≡ 0) × (r .number ≡ n)
-Film (film.Refused t) r = (r .refusal ≡ numberOf (t .why)) × (r .block ≡ t .block) × (r .number ≡ pos 0)
+Film (film.Number n) r = (r .refusal ≡ 0) × (r .block ≡ 0) × (r .offset ≡ 0) × (r .number ≡ n)
+Film (film.Refused t) r = (r .refusal ≡ numberOf (t .why)) × (r .block ≡ t .block) × (r .offset ≡ t .offset) × (r .number ≡ pos 0)
 
 on-film : (z : FilmFrame) → Film z (shownFrame (paperFrame z))
 unfolding shownFrame paperFrame
-on-film (film.Number n) = (refl, refl, refl)
-on-film (film.Refused t) = (refl, refl, refl)
+on-film (film.Number n) = (refl, refl, refl, refl)
+on-film (film.Refused t) = (refl, refl, refl, refl)
 
 pub of-frame-number : (κ : _) (a : _) (r : _) (t : _) → hsd-frame-number.Post κ a r t
     → (κ′ : _) (b : _) (z : _) (u : _) → frame-number.Post κ′ b z u → b .0 ≡ a .0 → b .1 .0 ≡ a .1 .0 → b .1 .1 .0 ≡ a .1 .1 .0 → b .1 .1 .1 .0 ≡ a .1 .1 .1 .0 → Film z r

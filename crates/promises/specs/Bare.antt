@@ -1,4 +1,4 @@
--- A refusal returns nothing else: in the answer to a refused file everything but its number and block is 0.
+-- A refusal returns nothing else: in the answer to a refused file everything but its number, block and offset is 0.
 use mathlib.Core.Path.{_≡_}
 use mathlib.Core.Bool.{false}
 use lib.IntN.{pos}

@@ -233,13 +233,8 @@ fn check_list(files: &[u8], lengths: &[u32], at: usize, room: usize) -> Verdict
         });
     }
     let v = check_cut(Verdict::Fine, files, lengths);
-    rules::check(
-        v,
-        at + trailer_length(lengths.len()) <= room,
-        Why::Room,
-        0,
-        0,
-    )
+    let fits = at + trailer_length(lengths.len()) <= room;
+    rules::check(v, fits, Why::Room, 0, 0)
 }
 
 // Stores the entries of files of these lengths.
