@@ -21,8 +21,8 @@ returns c = sym (writing-bad _ _ _ _ (sym (c .before .good-list .ensures) ∙ no
 check-cut-requires : tie.Need-check-cut-requires
 check-cut-requires c κs = omega (arith, bounds _ _ (good c) .0)
 
-add-check : tie.Need-add-check
-add-check c =
+add-fits : tie.Need-add-fits
+add-fits c =
     let a = c .before .before .before .before .before .before in
     omega (arith, a .pre, c .trailer-length .ensures, bounds _ _ (good (c .before .before)) .1)
 
@@ -40,6 +40,6 @@ check-list-spec =
     returns
     check-cut-requires
     (λ c κs. search needs)
-    add-check
+    add-fits
     (λ c κs. search needs)
     returns-2)
