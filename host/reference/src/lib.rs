@@ -1,7 +1,7 @@
 //! A second opinion on which satellite files are accepted and which field of the others is at fault, what
 //! their quality flag says, which headers are read and written, what frames show, which number a shot has
 //! on the film and which reels are opened and written, from documents 01 and 02 alone, and the inputs on
-//! which it is compared with the proved library.
+//! which it is compared with the proved library and with what the programs of cases must print.
 
 pub mod accept;
 pub mod assemble;
@@ -18,6 +18,7 @@ pub mod quality;
 pub mod random;
 pub mod readers;
 pub mod reel;
+pub mod spoken;
 pub mod takes;
 pub mod tally;
 pub mod values;

@@ -144,6 +144,10 @@ impl Recipe {
     pub fn data_length(&self) -> u64 {
         2 * self.columns * self.lines
     }
+
+    pub fn file_length(&self) -> u64 {
+        1_463 + 10 * self.a + 10 * self.b + 4 * self.c + self.data_length()
+    }
 }
 
 fn any_area(random: &mut Random) -> [u8; 4] {
@@ -168,6 +172,20 @@ pub struct Sample {
 
 impl Sample {
     pub fn make(recipe: &Recipe, random: &mut Random) -> Sample {
+        let mut bytes = vec![0; recipe.file_length() as usize];
+        random.fill(&mut bytes);
+        let mut sample = Sample::on(recipe, bytes);
+        // Random bytes would hardly ever make the patterns that are special among doubles.
+        for at in [19, 27] {
+            if random.below(4) == 0 {
+                sample.put(5, at, 8, special_double(random));
+            }
+        }
+        sample
+    }
+
+    /// Puts what the recipe says on bytes that keep all else. Where they end, the file is cut.
+    pub fn on(recipe: &Recipe, bytes: Vec<u8>) -> Sample {
         let mut lengths = BASE;
         lengths[7] += 10 * recipe.a as usize;
         lengths[8] += 10 * recipe.b as usize;
@@ -177,9 +195,6 @@ impl Sample {
             starts[block + 1] = starts[block] + lengths[block];
         }
         let header_length = starts[11];
-
-        let mut bytes = vec![0; header_length + recipe.data_length() as usize];
-        random.fill(&mut bytes);
         let mut sample = Sample {
             recipe: recipe.clone(),
             bytes,
@@ -210,12 +225,6 @@ impl Sample {
         sample.put(5, 13, 2, recipe.valid_bits());
         sample.put(5, 15, 2, 65_535);
         sample.put(5, 17, 2, 65_534);
-        // Random bytes would hardly ever make the patterns that are special among doubles.
-        for at in [19, 27] {
-            if random.below(4) == 0 {
-                sample.put(5, at, 8, special_double(random));
-            }
-        }
         sample.put(7, 3, 1, recipe.total);
         sample.put(7, 4, 1, recipe.number);
         sample.put(7, 5, 2, recipe.first_line);

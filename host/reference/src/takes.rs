@@ -74,7 +74,7 @@ fn any_shot(random: &mut Random) -> Recipe {
     }
 }
 
-fn slate_of(shot: &Recipe) -> Slate {
+pub(crate) fn slate_of(shot: &Recipe) -> Slate {
     let day = day_of_date(shot.year, shot.month, shot.day).expect("a real date");
     Slate {
         satellite: shot.satellite as u8,
