@@ -5,9 +5,8 @@ use crate::accept::{day_of_date, demand, Refusal, NAME};
 use crate::film::frame_number;
 use crate::quality::{marks, Mark, NAMES};
 
-/// Nothing for what a count reads as, of which the reference has no opinion.
-pub fn answer(case: &str) -> Option<String> {
-    let answer = match words(case)[..] {
+pub fn answer(case: &str) -> String {
+    match words(case)[..] {
         ["date", year, month, day] => told(date(number(year), number(month), number(day))),
         ["slot", day, timeline] => told(slot(number(day), number(timeline))),
         ["film", first_day, first_timeline, day, timeline] => told(frame_number(
@@ -15,10 +14,8 @@ pub fn answer(case: &str) -> Option<String> {
             (number(day), number(timeline)),
         )),
         [.., "marks", flag] => lit(hexadecimal(flag) as u8),
-        ["count", ..] => return None,
         _ => panic!("{case}?"),
-    };
-    Some(answer)
+    }
 }
 
 fn told<T: ToString>(answer: Result<T, Refusal>) -> String {
