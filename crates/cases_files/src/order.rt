@@ -29,7 +29,7 @@ pub const ORDERED: [usize; 135] = [
     AND + set::LENGTH + 1 * BLOCK + 281,
     LITTLE_FULL + set::NUMBER + 10 * BLOCK + 9,
     AND + set::LENGTH + 10 * BLOCK + 46,
-    // LENGTH before FIXED and FIELD
+    // LENGTH before FIXED and the fields
     BIG + set::LENGTH + 1 * BLOCK + 281,
     AND + set::BLOCKS + 12,
     LITTLE + set::LENGTH + 2 * BLOCK + 51,
@@ -38,7 +38,7 @@ pub const ORDERED: [usize; 135] = [
     AND + set::ERROR + 0,
     LITTLE + set::LENGTH + 7 * BLOCK + 48,
     AND + set::TOTAL + 0,
-    // FIXED before PACKED before FIELD
+    // FIXED before PACKED before the fields
     BIG + set::BLOCKS + 12,
     AND + set::TIMELINE + 60,
     LITTLE + set::BITS + 8,

@@ -61,7 +61,7 @@ pub const OFFERS: [usize; 69] = [
     AND + plan::ENTRIES + 2,
     AND + plan::BYTES + 1487,
     OFFER + plan::SEGMENT + 2_003,
-    // damaged: SHORT twice, NUMBER, ORDER, LENGTH, FIXED, PACKED, FIELD, HEADER SUM, DATA SUM, NAME, CUT and TAIL
+    // damaged: SHORT twice, NUMBER, ORDER, LENGTH, FIXED, PACKED, a field, HEADER SUM, DATA SUM, NAME, CUT and TAIL
     OFFER + plan::BYTES + 0,
     OFFER + plan::BYTES + 1462,
     OFFER + plan::BYTE + 282 * 256 + 3,

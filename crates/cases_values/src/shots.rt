@@ -29,7 +29,7 @@ const SHOTS: [[u32; 2]; 17] = [
 ];
 
 // Day and timeline of the first shot, and of the shot.
-const PAIRS: [[u32; 4]; 9] = [
+const PAIRS: [[u32; 4]; 12] = [
     // the paper's
     [57209, 2350, 57210, 0],
     [57210, 0, 57209, 2350],
@@ -43,6 +43,10 @@ const PAIRS: [[u32; 4]; 9] = [
     [57210, 0, 88069, 0],
     [57210, 60, 57210, 0],
     [57210, 0, 57210, 2400],
+    // either day before either timeline
+    [57210, 60, 88069, 0],
+    [51543, 0, 57210, 60],
+    [51543, 60, 88069, 60],
 ];
 
 // The tables hold no timeline above 65535.
@@ -117,7 +121,7 @@ fn show_film(row: [u32; 4]) {
 }
 
 pub(crate) fn run_films() {
-    for i in 0..9 {
+    for i in 0..12 {
         show_film(PAIRS[i]);
     }
 }
