@@ -4,13 +4,15 @@ use mathlib.Core.Path.{_≡_, refl, sym, ap, _∙_}
 use mathlib.Core.Bool.{Bool, true, false, _&&_, and-eq-true-iff}
 use mathlib.Core.List.{List, [], _∷_, _++_}
 use mathlib.Core.Logic.{_↔_}
-use Prim.Native.Nat.{ℕ}
+use Prim.Native.Nat.{ℕ, _≤_}
 use native.Mathlib.Omega.{arith}
-use lib.ListN.{length}
+use lib.ListN.{length, take, drop}
+use lib.Seq.{take-at}
 use lib.Dec.{eqb}
 use lib.IntN.{ℤ}
-use borrow.Author.Tests.{eqb-true}
+use borrow.Author.Tests.{eqb-true, le-ltb}
 use denote.Ref.{now}
+use Rattle.wire.specs.Wire.{join}
 use Rattle.rules.specs.Rules.{Turned, turned, Row, test, Ruling, fine, refused, judge, checked, First, here, later, tables, unplaced, paper, refuses, reply}
 use Rattle.rules.proofs.Judge.{first-fails, turned-away}
 use Rattle.calendar.specs.Shots.{shot, paperSlot, shots, paperFrame, filmFrameOf}
@@ -25,6 +27,10 @@ use Rattle.writer.specs.Given.{given}
 use Rattle.reel.specs.Reels.{File, filed, partsOf, paperOpened, opened}
 use Rattle.reel.specs.Reels as reels
 use Rattle.reel.specs.Writing.{writing, listed}
+use Rattle.format.specs.Texts.{decimal}
+use Rattle.listing.specs.Lines.{width, numeral, refusalWords, lineWords, Listed}
+use Rattle.listing.specs.Lines as listing
+use Rattle.tiling.specs.Lawful.{text}
 use Rattle.plugin.specs.Plugin.{shownRuling, shownFile, shownFrame}
 use Rattle.plugin_frames.specs.Strips.{lent, offeredC}
 use Rattle.plugin_reels.specs.Reels.{shownReel}
@@ -41,6 +47,7 @@ use Rattle.writer.proofs.write.Reads as write
 use Rattle.reel.proofs.open.Reads as open-reel
 use Rattle.reel.proofs.write.Reads as write-reel
 use Rattle.reel.proofs.seal.Reads as seal
+use Rattle.listing.proofs.line.Reads as line
 use Rattle.plugin.proofs.hsd_accept.Reads as hsd-accept
 use Rattle.plugin.proofs.hsd_frame_number.Reads as hsd-frame-number
 use Rattle.plugin_frames.proofs.hsd_offer.Reads as hsd-offer
@@ -48,7 +55,7 @@ use Rattle.plugin_reels.proofs.hsd_reel_open.Reads as hsd-reel-open
 use Rattle.plugin_reels.proofs.hsd_reel_write.Reads as hsd-reel-write
 use Rattle.plugin_reels.proofs.hsd_reel_seal.Reads as hsd-reel-seal
 use Rattle.promises.specs.Blocks.{allowed}
-use Rattle.promises.specs.Fields.{fields, slotFields, filmFields, Concerns, none, one, offsetOf}
+use Rattle.promises.specs.Fields.{fields, slotFields, filmFields, Concerns, none, one, offsetOf, refusedLine}
 use Rattle.promises.specs.Reels.{Laid, Handed}
 use Rattle.promises.proofs.First as first
 use Rattle.promises.proofs.Reeled.{laid-has, handed-listed}
@@ -186,6 +193,23 @@ of-write-reel κ a r t p h u e = rw (← handed-listed h) (wrote-of _ _ _ _ u (s
 
 pub of-seal : (κ : _) (a : _) (r : _) (t : _) → seal.Post κ a r t → {fs : List File} → Handed (now (a .0)) (now (a .1 .0)) fs → (u : Turned) → paper r ≡ refused u → Concerns fs u
 of-seal κ a r t p h u e = rw (← handed-listed h) (wrote-of _ _ _ _ u (sym (p .0) ∙ e))
+
+-- ---- the listing
+
+stored : (s before after : List ℕ) (r : ℕ) → Listed s before after r → take r after ≡ listing.listed s
+stored s before after r l = rw (l .is) (take-at (listing.listed s) (drop (length (listing.listed s)) before) r (sym (l .long)))
+
+pub of-line : (κ : _) (a : _) (r : _) (t : _) → line.Post κ a r t → length (now (a .0)) ≤ 65536 → (u : Turned) → answerOf (now (a .0)) ≡ refuses u → take r (now (t .1 .0)) ≡ refusedLine u
+unfolding listing.listed lineWords refusalWords join
+of-line κ a r t p short (turned n b o) e = stored _ _ _ r p ∙ rw (le-ltb 65536 (length (now (a .0))) short, e) refl
+
+none-there : answerOf [] ≡ refuses (turned 1 1 0)
+unfolding answerOf reply tables
+none-there = let f : judge fine (checks []) ≡ refused (turned 1 1 0) = first-fails (checks []) (turned 1 1 0) .1 (rw (fields-are []) (here refl)) in rw f
+
+pub no-bytes : (κ : _) (a : _) (r : _) (t : _) → line.Post κ a r t → now (a .0) ≡ [] → take r (now (t .1 .0)) ≡ text "NO 1 1 0" ++ (10 ∷ [])
+unfolding numeral width decimal join
+no-bytes κ a r t p e = of-line κ a r t p (rw e (omega arith)) (turned 1 1 0) (ap answerOf e ∙ none-there)
 
 -- ---- values that come from no file
 

@@ -6,7 +6,7 @@ use mathlib.Core.Bool.{Bool, not, _||_}
 use mathlib.Core.List.{List, [], _∷_, _++_}
 use lib.ListN.{length, getD}
 use lib.Dec.{leb, eqb}
-use Rattle.wire.specs.Wire.{span, num}
+use Rattle.wire.specs.Wire.{span, num, join}
 use Rattle.rules.specs.Rules.{Turned, turned, Row, row, tables, First}
 use Rattle.calendar.specs.Shots.{goodDay, goodTimeline}
 use Rattle.format.specs.Ranges.{satelliteOf, goodArea, goodSize, goodTotal, goodNumber, goodFirst}
@@ -14,6 +14,8 @@ use Rattle.format.specs.Bands.{goodBand, bandOf}
 use Rattle.format.specs.Names.{goodName}
 use Rattle.header.specs.Places.{orderOf, aOf, bOf, cOf, at9, at10, at11, length8, length9, length10, lengthOf, dataLength}
 use Rattle.reel.specs.Reels.{File, Good}
+use Rattle.listing.specs.Lines.{numeral}
+use Rattle.tiling.specs.Lawful.{text}
 
 -- a number in w bytes, by the file's byte order
 abbrev number : List ℕ → ℕ → ℕ → ℕ
@@ -108,3 +110,7 @@ pub data Concerns (fs : List File) : Turned → Type 0 where
 
 abbrev pub offsetOf : Turned → ℕ
 offsetOf (turned n b p) = p
+
+-- the listing's line of a refused file: NO and the three numbers, without leading zeros
+abbrev pub refusedLine : Turned → List ℕ
+refusedLine (turned n b p) = join (text "NO" ∷ (32 ∷ numeral n) ∷ (32 ∷ numeral b) ∷ (32 ∷ numeral p) ∷ []) ++ (10 ∷ [])
