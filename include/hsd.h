@@ -3,8 +3,8 @@
  * What holds for every function here:
  *  - It answers whatever the numbers and bytes are: nothing needs to have been checked before.
  *  - It allocates nothing and keeps nothing; calls in several threads at once are fine.
- *  - A refusal changes no lent element, and shows its number, its block and the offset of the field that it concerns, counted
- *    in bytes from the file's start: everything else in the answer is 0.
+ *  - A refusal changes no lent element, and shows its number, its block and the offset of the field that it concerns, in
+ *    bytes from the file's start: everything else in the answer is 0.
  *
  * What it needs from you, since no function can check it:
  *  - A pointer and a length lend it so many elements of readable (or writable) memory. The pointer must not be NULL, even
@@ -27,7 +27,7 @@
 extern "C" {
 #endif
 
-/* Why something is turned away. The first check that fails answers. */
+/* Why something is turned away. The first check that fails answers. 7 is no refusal. */
 enum {
     HSD_FINE = 0,               /* it is not */
     HSD_SHORT = 1,              /* too few bytes for the block */
@@ -87,8 +87,8 @@ typedef struct HsdFile {
     uint8_t block;          /* of a refusal: 1 to 11, or 12 for the counts */
     uint8_t satellite;      /* 8 or 9 */
     uint8_t quality;        /* quality flag 1, as it stands in the file; hsd_quality says what it means */
-    uint32_t offset;        /* of a refusal: where the first field at fault stands, in bytes from the file's start; where the
-                               block starts for HSD_SHORT, and the counts for HSD_CUT and HSD_TAIL */
+    uint32_t offset;        /* of a refusal: where the first field at fault stands, in bytes from the file's start; for
+                               HSD_SHORT where the block starts, for HSD_CUT and HSD_TAIL where the counts do */
     uint32_t day;           /* Modified Julian Day of the name's date: 51,544 is 2000-01-01 */
     uint16_t timeline;      /* hhmm as a number: 200 is 02:00 */
     uint16_t band;          /* 1 to 16 */
@@ -142,7 +142,7 @@ HsdQuality hsd_quality(uint8_t quality);
 
 /* A shot's number on the film. */
 typedef struct HsdFrameNumber {
-    uint8_t refusal; /* HSD_FINE; HSD_DAY_FIELD, either day out of 51,544 to 88,068; then HSD_TIMELINE_FIELD, either no good hhmm */
+    uint8_t refusal; /* HSD_FINE; HSD_DAY_FIELD, either day out of 51,544 to 88,068; or HSD_TIMELINE_FIELD, either no hhmm */
     uint8_t block;   /* 0 */
     uint32_t offset; /* 0: these numbers come from no file */
     int64_t number;  /* 10 minutes each, negative for a shot before the first */
@@ -184,8 +184,8 @@ typedef struct HsdAnswer {
 HsdAnswer hsd_open(HsdSlate slate, uint8_t *marks, size_t marks_length, uint16_t *frame, size_t frame_length);
 
 /* Offers a file: HSD_SLATE, HSD_STRIP, what hsd_accept says of a refused file, HSD_OTHER_SHOT, HSD_ALREADY, or fine. When
- * fine, the segment's lines of the frame are the file's counts as numbers, its mark is 1, and nothing else has changed. Files
- * may come in any order. */
+ * fine, the segment's lines of the frame are the file's counts as numbers, its mark is 1, and nothing else has changed.
+ * Files may come in any order. */
 HsdAnswer hsd_offer(HsdSlate slate, uint8_t *marks, size_t marks_length, uint16_t *frame, size_t frame_length,
                     const uint8_t *file, size_t file_length);
 

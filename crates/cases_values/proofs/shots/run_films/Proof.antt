@@ -5,10 +5,10 @@ use Rattle.cases_values.proofs.shots.run_films.Statement.{statement}
 use Rattle.cases_values.proofs.shots.run_films.Tie as tie
 
 abbrev Inv-loop : tie.InvT-loop
-Inv-loop i₀ i = i ≤ 9
+Inv-loop i₀ i = i ≤ 12
 
 abbrev μ-loop : tie.MeasureT-loop
-μ-loop i₀ i = 9 - i
+μ-loop i₀ i = 12 - i
 
 pub run-films-spec : {M : Type 1} → statement M
 run-films-spec =
