@@ -115,36 +115,37 @@ zeros h (later {t = turned m c q} {rs = rs} e f) = zeros (and-eq-true-iff (eqb c
 none-of : (fs : List File) (rs : List Row) (u : Turned) → nowhere rs ≡ true → First rs u → Concerns fs u
 none-of fs rs (turned n b p) h f = let z = zeros h f in rw (z .0, z .1) none
 
--- a file's own checks, among others that concern none
+-- a table that concerns these files, among rows that concern none
+between : (fs : List File) (xs ys zs : List Row) (u : Turned) → nowhere xs ≡ true → nowhere zs ≡ true → (First ys u → Concerns fs u) → First (xs ++ (ys ++ zs)) u → Concerns fs u
+between fs xs ys zs u hx hz told h = outer (split xs h)
+  where
+    inner : Either ys zs u → Concerns fs u
+    inner (within g) = told g
+    inner (beyond e g) = none-of fs zs u hz g
+
+    outer : Either xs (ys ++ zs) u → Concerns fs u
+    outer (within g) = none-of fs xs u hx g
+    outer (beyond e g) = inner (split ys g)
+
+-- a file's own checks
 alone : (f : File) (u : Turned) → First (checks f) u → Concerns (f ∷ []) u
 alone f u h = one [] [] f {u = u} refl tt (rw (← fields-are f) h)
 
-around : (f : File) (xs zs : List Row) (u : Turned) → nowhere xs ≡ true → nowhere zs ≡ true → First (xs ++ (checks f ++ zs)) u → Concerns (f ∷ []) u
-around f xs zs u hx hz h = outer (split xs h)
-  where
-    inner : Either (checks f) zs u → Concerns (f ∷ []) u
-    inner (within g) = alone f u g
-    inner (beyond e g) = none-of (f ∷ []) zs u hz g
-
-    outer : Either xs (checks f ++ zs) u → Concerns (f ∷ []) u
-    outer (within g) = none-of (f ∷ []) xs u hx g
-    outer (beyond e g) = inner (split (checks f) g)
-
 pub of-shifts : (κ : _) (a : _) (r : _) (t : _) → read-shifts.Post κ a r t → (u : Turned) → paper r ≡ refused u → Concerns (now (a .0) ∷ []) u
 unfolding tables rooms3
-of-shifts κ a r t p u e = around (now (a .0)) [] _ u refl refl (first.of-shifts κ a r t p u .0 e)
+of-shifts κ a r t p u e = between (now (a .0) ∷ []) [] (checks (now (a .0))) _ u refl refl (alone (now (a .0)) u) (first.of-shifts κ a r t p u .0 e)
 
 pub of-times : (κ : _) (a : _) (r : _) (t : _) → read-times.Post κ a r t → (u : Turned) → paper r ≡ refused u → Concerns (now (a .0) ∷ []) u
 unfolding tables rooms2
-of-times κ a r t p u e = around (now (a .0)) [] _ u refl refl (first.of-times κ a r t p u .0 e)
+of-times κ a r t p u e = between (now (a .0) ∷ []) [] (checks (now (a .0))) _ u refl refl (alone (now (a .0)) u) (first.of-times κ a r t p u .0 e)
 
 pub of-errors : (κ : _) (a : _) (r : _) (t : _) → read-errors.Post κ a r t → (u : Turned) → paper r ≡ refused u → Concerns (now (a .0) ∷ []) u
 unfolding tables rooms2
-of-errors κ a r t p u e = around (now (a .0)) [] _ u refl refl (first.of-errors κ a r t p u .0 e)
+of-errors κ a r t p u e = between (now (a .0) ∷ []) [] (checks (now (a .0))) _ u refl refl (alone (now (a .0)) u) (first.of-errors κ a r t p u .0 e)
 
 offered-for : (s : _) (marks : _) (size : ℕ) (f : File) (u : Turned) → First (offering s marks size f) u → Concerns (f ∷ []) u
 unfolding offering tables ready slated placing
-offered-for s marks size f u h = around f (ready s marks size) _ u refl refl h
+offered-for s marks size f u h = between (f ∷ []) (ready s marks size) (checks f) _ u refl refl (alone f u) h
 
 pub of-offer : (κ : _) (a : _) (r : _) (t : _) → offer.Post κ a r t → (u : Turned) → paper (r .verdict) ≡ refused u → Concerns (now (a .1 .1 .1 .0) ∷ []) u
 of-offer κ a r t p u e = offered-for (a .0) (a .1 .0 .marks) (length (now (a .1 .1 .0))) (now (a .1 .1 .1 .0)) u (first.of-offer κ a r t p u .0 e)
@@ -164,25 +165,13 @@ any-of (f ∷ fs) u h = go (split (checks f) h) (any-of fs u)
     go (within g) r = one [] fs f {u = u} refl tt (rw (← fields-are f) g)
     go (beyond e g) r = next-one f e (r g)
 
--- the parts, among rows that concern none
-parts-of : (fs : List File) (xs zs : List Row) (u : Turned) → nowhere xs ≡ true → nowhere zs ≡ true → First (xs ++ (filed fs ++ zs)) u → Concerns fs u
-parts-of fs xs zs u hx hz h = outer (split xs h)
-  where
-    inner : Either (filed fs) zs u → Concerns fs u
-    inner (within g) = any-of fs u g
-    inner (beyond e g) = none-of fs zs u hz g
-
-    outer : Either xs (filed fs ++ zs) u → Concerns fs u
-    outer (within g) = none-of fs xs u hx g
-    outer (beyond e g) = inner (split (filed fs) g)
-
 opened-of : (s : List ℕ) (u : Turned) → judge fine (reels.opening s) ≡ refused u → Concerns (partsOf s) u
 unfolding reels.opening tables
-opened-of s u e = parts-of (partsOf s) (_ ∷ []) [] u refl refl (first-fails (reels.opening s) u .0 e)
+opened-of s u e = between (partsOf s) (_ ∷ []) (filed (partsOf s)) [] u refl refl (any-of (partsOf s) u) (first-fails (reels.opening s) u .0 e)
 
 wrote-of : (s ls : List ℕ) (need room : ℕ) (u : Turned) → judge fine (writing s ls need room) ≡ refused u → Concerns (listed s ls) u
 unfolding writing tables
-wrote-of s ls need room u e = parts-of (listed s ls) (_ ∷ []) (_ ∷ []) u refl refl (first-fails (writing s ls need room) u .0 e)
+wrote-of s ls need room u e = between (listed s ls) (_ ∷ []) (filed (listed s ls)) (_ ∷ []) u refl refl (any-of (listed s ls) u) (first-fails (writing s ls need room) u .0 e)
 
 pub of-open-reel : (κ : _) (a : _) (r : _) (t : _) → open-reel.Post κ a r t → {ps : List File} → Laid (now (a .0)) ps → (u : Turned) → paperOpened r ≡ refuses u → Concerns ps u
 unfolding opened
@@ -263,15 +252,7 @@ of-hsd-accept κ a r t p = rw p (λ h. rw (← fields-are (now (a .0))) (first-f
 
 lent-for : (ok : Bool) (s : _) (marks : _) (size : ℕ) (f : File) (u : Turned) → First (tables (lent ok ∷ offering s marks size f ∷ [])) u → Concerns (f ∷ []) u
 unfolding tables lent
-lent-for ok s marks size f u h = outer (split (lent ok) h)
-  where
-    inner : Either (offering s marks size f) [] u → Concerns (f ∷ []) u
-    inner (within g) = offered-for s marks size f u g
-    inner (beyond e g) = absurd (nothing g)
-
-    outer : Either (lent ok) (offering s marks size f ++ []) u → Concerns (f ∷ []) u
-    outer (within g) = none-of (f ∷ []) (lent ok) u refl g
-    outer (beyond e g) = inner (split (offering s marks size f) g)
+lent-for ok s marks size f u h = between (f ∷ []) (lent ok) (offering s marks size f) [] u refl refl (offered-for s marks size f u) h
 
 pub of-hsd-offer : (κ : _) (a : _) (r : _) (t : _) → hsd-offer.Post κ a r t → (r .refusal ≡ 0 → ⊥) → Concerns (now (a .1 .1 .1 .0) ∷ []) (turned (r .refusal) (r .block) (r .offset))
 of-hsd-offer κ a r t p = rw (p .0) (λ h. lent-for _ _ _ _ _ _ (first-fails _ _ .0 (shown-ruling (offeredC (a .0) (now (a .1 .0)) (length (now (a .1 .1 .0))) (now (a .1 .1 .1 .0))) h)))
