@@ -1,4 +1,6 @@
 // Dates as Modified Julian Days, timelines, a shot's slot, and the film frame number.
+mod sheet;
+
 use rules::Refusal;
 use rules::Verdict;
 use rules::Why;
@@ -53,16 +55,7 @@ fn month_start(i: u32) -> u32
     requires { ⌜ i < 1200 ⌝ }
     ensures { λ r. ⌜ r ≡ monthStart i ⌝ }
 {
-    let k = i / 12;
-    let m = i % 12 + 1;
-    let base = 51544 + 365 * k + (k + 3) / 4 + (367 * m - 362) / 12;
-    if m <= 2 {
-        return base;
-    }
-    if k % 4 == 0 {
-        return base - 1;
-    }
-    base - 2
+    sheet::MONTH_STARTS[i as usize]
 }
 
 fn is_real(year: u32, month: u32, day: u32) -> bool
