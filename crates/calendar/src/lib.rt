@@ -5,7 +5,9 @@ use rules::Refusal;
 use rules::Verdict;
 use rules::Why;
 ghost use mathlib.Core.Path.{_≡_};
-ghost use Prim.Native.Nat.{_<_};
+ghost use Prim.Native.Nat.{_<_, _/_, _%_};
+ghost use mathlib.Core.List.{[]};
+ghost use lib.ListN.{getD};
 ghost use lib.IntN.{pos, _-ℤ_};
 ghost use Rattle.rules.specs.Rules.{paper, judge, fine};
 ghost use Rattle.calendar.specs.Dates.{leap, monthLength, monthStart, real, paperDay, dayOf};
@@ -50,12 +52,47 @@ fn month_length(year: u32, month: u32) -> u32
     31
 }
 
+fn on_page(page: [u32; 120], i: u32) -> u32
+    requires { ⌜ i < 120 ⌝ }
+    ensures { λ r. ⌜ r ≡ getD page i 0 ⌝ }
+{
+    page[i as usize]
+}
+
+// What stands on a sheet of ten pages, places counted from 0. A constant is copied where it is read: by a branch for each page, one page is.
+fn on_sheet(pages: [[u32; 120]; 10], i: u32) -> u32
+    requires { ⌜ i < 1200 ⌝ }
+    ensures { λ r. ⌜ r ≡ getD (getD pages (i / 120) []) (i % 120) 0 ⌝ }
+{
+    if i < 120 {
+        on_page(pages[0], i)
+    } else if i < 240 {
+        on_page(pages[1], i - 120)
+    } else if i < 360 {
+        on_page(pages[2], i - 240)
+    } else if i < 480 {
+        on_page(pages[3], i - 360)
+    } else if i < 600 {
+        on_page(pages[4], i - 480)
+    } else if i < 720 {
+        on_page(pages[5], i - 600)
+    } else if i < 840 {
+        on_page(pages[6], i - 720)
+    } else if i < 960 {
+        on_page(pages[7], i - 840)
+    } else if i < 1080 {
+        on_page(pages[8], i - 960)
+    } else {
+        on_page(pages[9], i - 1080)
+    }
+}
+
 // The day on which a month begins, months counted from January 2000 as 0.
 fn month_start(i: u32) -> u32
     requires { ⌜ i < 1200 ⌝ }
     ensures { λ r. ⌜ r ≡ monthStart i ⌝ }
 {
-    sheet::MONTH_STARTS[i as usize]
+    on_sheet(sheet::MONTH_STARTS, i)
 }
 
 fn is_real(year: u32, month: u32, day: u32) -> bool

@@ -9,9 +9,9 @@ use Rattle.calendar.proofs.month_start.Tie as tie
 returns : tie.Need-returns
 unfolding monthLength
 returns c =
-    let h : c .args .i < 1200 = c .pre in
+    let h : c .before .args .i < 1200 = c .before .pre in
     let t : Unit {0} = tt in
-    rw in-place
+    rw (c .on-sheet .ensures, in-place)
 
 pub month-start-spec : {M : Type 1} → statement M
-month-start-spec = tie.close (tie.spec (λ c. search needs) (λ c. search needs) returns)
+month-start-spec = tie.close (tie.spec (λ c κs. search needs) returns)
