@@ -153,28 +153,42 @@ static void check_any_shots(void)
     }
 }
 
-/* Whether a month has this day, by the almanac. */
-static bool is_date(unsigned year, unsigned month, unsigned day)
+/* How many days a month has, by the almanac, and 0 for what is no month. */
+static unsigned month_length(unsigned year, unsigned month)
 {
     static const unsigned lengths[] = {31, 28, 31, 30, 31, 30, 31, 31, 30, 31, 30, 31};
     bool leap = year % 4 == 0 && (year % 100 != 0 || year % 400 == 0);
-    return month >= 1 && month <= 12 && day >= 1 && day <= lengths[month - 1] + (month == 2 && leap);
+    return month >= 1 && month <= 12 ? lengths[month - 1] + (month == 2 && leap) : 0;
 }
 
-/* The days of the century come one after the other, and every other date is 0. */
+/* The 36,525 days of the century come one after the other, and every other date is 0. */
 static void check_days(void)
 {
     uint32_t next = 51544;
     for (unsigned i = 0; i < 100 * 14 * 33; i++) {
         unsigned year = 2000 + i / (14 * 33), month = i / 33 % 14, day = i % 33;
-        bool real = is_date(year, month, day);
+        bool real = day >= 1 && day <= month_length(year, month);
         CHECK(hsd_day((uint16_t)year, (uint8_t)month, (uint8_t)day) == (real ? next : 0));
         next += real;
     }
-    CHECK(next == 88069);
+    CHECK(next == 51544 + 36525);
     CHECK(hsd_day(2015, 7, 7) == 57210);
     CHECK(hsd_day(1999, 12, 31) == 0 && hsd_day(2100, 1, 1) == 0);
     CHECK(hsd_day(65535, 255, 255) == 0);
+}
+
+/* The day on which a month begins, months counted from January 2000 as 0. */
+static uint32_t month_start(unsigned i)
+{
+    return hsd_day((uint16_t)(2000 + i / 12), (uint8_t)(i % 12 + 1), 1);
+}
+
+/* The sheet by its 1,199 differences: each month begins as many days after the one before as that one has. */
+static void check_months(void)
+{
+    for (unsigned i = 0; i < 1199; i++)
+        CHECK(month_start(i + 1) - month_start(i) == month_length(2000 + i / 12, i % 12 + 1));
+    CHECK(month_start(0) == 51544 && month_start(1199) == 88038);
 }
 
 static void check_valid_bits(void)
@@ -195,6 +209,7 @@ int main(void)
     check_edges();
     check_any_shots();
     check_days();
+    check_months();
     check_valid_bits();
     return checked("values");
 }
