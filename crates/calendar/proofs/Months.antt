@@ -53,6 +53,5 @@ in-place ps i h e t =
     ∙ ap (λ (n : ℕ). getD (whole ps) n 0) (omega arith)
     ∙ rw zero-add at (from (whole ps) 0 t i h)
 
--- the page and the line of a place on page p
-pub placed : (p i : ℕ) → 120 * p ≤ i → i < 120 * p + 120 → (i / 120 ≡ p) × (i % 120 ≡ i - 120 * p)
-placed p i l m = (omega arith, omega arith)
+pub page-is : (p i : ℕ) → 120 * p ≤ i → i < 120 * p + 120 → i / 120 ≡ p
+page-is p i l m = omega arith

@@ -52,14 +52,14 @@ fn month_length(year: u32, month: u32) -> u32
     31
 }
 
+// What stands at a place of a sheet, on a page of it.
 fn on_page(page: [u32; 120], i: u32) -> u32
-    requires { ⌜ i < 120 ⌝ }
-    ensures { λ r. ⌜ r ≡ getD page i 0 ⌝ }
+    ensures { λ r. ⌜ r ≡ getD page (i % 120) 0 ⌝ }
 {
-    page[i as usize]
+    page[(i % 120) as usize]
 }
 
-// What stands on a sheet of ten pages, places counted from 0. A constant is copied where it is read: by a branch for each page, one page is.
+// What stands at a place of a sheet of ten pages. A constant is copied where it is read: by a branch for each page, one page is.
 fn on_sheet(pages: [[u32; 120]; 10], i: u32) -> u32
     requires { ⌜ i < 1200 ⌝ }
     ensures { λ r. ⌜ r ≡ getD (getD pages (i / 120) []) (i % 120) 0 ⌝ }
@@ -67,23 +67,23 @@ fn on_sheet(pages: [[u32; 120]; 10], i: u32) -> u32
     if i < 120 {
         on_page(pages[0], i)
     } else if i < 240 {
-        on_page(pages[1], i - 120)
+        on_page(pages[1], i)
     } else if i < 360 {
-        on_page(pages[2], i - 240)
+        on_page(pages[2], i)
     } else if i < 480 {
-        on_page(pages[3], i - 360)
+        on_page(pages[3], i)
     } else if i < 600 {
-        on_page(pages[4], i - 480)
+        on_page(pages[4], i)
     } else if i < 720 {
-        on_page(pages[5], i - 600)
+        on_page(pages[5], i)
     } else if i < 840 {
-        on_page(pages[6], i - 720)
+        on_page(pages[6], i)
     } else if i < 960 {
-        on_page(pages[7], i - 840)
+        on_page(pages[7], i)
     } else if i < 1080 {
-        on_page(pages[8], i - 960)
+        on_page(pages[8], i)
     } else {
-        on_page(pages[9], i - 1080)
+        on_page(pages[9], i)
     }
 }
 
