@@ -1,9 +1,9 @@
--- The sheet's rule: a list that goes on as the calendar counts has each month's first day in its place. Whether it goes on so is one test over
--- the whole list, which carries the day along. The list may be cut into pages. Assumes nothing.
+-- A sheet that goes on as the calendar counts has each month's first day in its place. Whether it goes on so is one test over all of it, which
+-- carries the day along. Assumes nothing.
 use mathlib.Core.Path.{_≡_, refl, sym, ap, _∙_}
 use mathlib.Core.List.{List, [], _∷_, _++_}
 use mathlib.Core.Bool.{Bool, true, _&&_}
-use Prim.Native.Nat.{ℕ, zero, suc, _+_, _-_, _*_, _/_, _%_, _≤_, _<_}
+use Prim.Native.Nat.{ℕ, zero, suc, _+_, _*_, _/_, _%_, _≤_, _<_}
 use native.Mathlib.Nat.{add-zero, zero-add, add-suc, suc-add, le-of-suc-le-suc, not-suc-le-zero}
 use native.Mathlib.Omega.{arith}
 use lib.ListN.{length, getD, List·getD-append}
@@ -46,6 +46,7 @@ paged (q ∷ qs) e (suc p) k h =
     ∙ sym (getD-append-add q (whole qs) (120 * p + k) 0)
     ∙ ap (λ (n : ℕ). getD (q ++ whole qs) n 0) (omega (arith, torn q qs e .0))
 
+-- the sheet's rule
 pub in-place : (ps : List (List ℕ)) (i : ℕ) → i < length (whole ps) → T (even ps) → T (follows 0 51544 (whole ps)) → getD (getD ps (i / 120) []) (i % 120) 0 ≡ monthStart i
 unfolding monthStart
 in-place ps i h e t =
@@ -53,5 +54,6 @@ in-place ps i h e t =
     ∙ ap (λ (n : ℕ). getD (whole ps) n 0) (omega arith)
     ∙ rw zero-add at (from (whole ps) 0 t i h)
 
+-- the page of a place
 pub page-is : (p i : ℕ) → 120 * p ≤ i → i < 120 * p + 120 → i / 120 ≡ p
 page-is p i l m = omega arith
