@@ -59,7 +59,7 @@ fn on_page(page: [u32; 120], i: u32) -> u32
     page[(i % 120) as usize]
 }
 
-// What stands at a place of a sheet of ten pages. A constant is copied where it is read: by a branch for each page, one page is.
+// What stands at a place of a sheet of ten pages. A constant is stored anew wherever it is read: with a branch for each page, that page alone is.
 fn on_sheet(pages: [[u32; 120]; 10], i: u32) -> u32
     requires { ⌜ i < 1200 ⌝ }
     ensures { λ r. ⌜ r ≡ getD (getD pages (i / 120) []) (i % 120) 0 ⌝ }
