@@ -4,7 +4,7 @@
  *  - It answers whatever the numbers and bytes are: nothing needs to have been checked before.
  *  - It allocates nothing and keeps nothing; calls in several threads at once are fine.
  *  - A refusal changes no lent element, and shows its number, its block and the offset of the field that it concerns, in
- *    bytes from the file's start: everything else in the answer is 0.
+ *    bytes from the file's start: everything else in the answer is 0, but for the run that hsd_night_add hands back.
  *
  * What it needs from you, since no function can check it:
  *  - A pointer and a length lend it so many elements of readable (or writable) memory. The pointer must not be NULL, even
@@ -15,8 +15,8 @@
  *  - What a function writes (a pointer without const) overlaps nothing else that is lent in the same call. Things that it
  *    only reads may overlap.
  *  - The processor computes floating-point numbers as a C program finds it at its start: rounding to nearest, and no
- *    flushing of small numbers to zero (not FTZ, not DAZ). In another mode hsd_read_count and hsd_reading give other
- *    numbers. */
+ *    flushing of small numbers to zero (not FTZ, not DAZ). In another mode hsd_read_count, hsd_reading and hsd_night_add
+ *    give other numbers. */
 #ifndef HSD_H
 #define HSD_H
 
@@ -47,6 +47,7 @@ enum {
     HSD_ALREADY = 16,           /* a segment with its number is in */
     HSD_ROOM = 17,              /* the output is too short for the reel, or for its trailer */
     HSD_REEL = 18,              /* bytes that are no reel, or a list of files that has none */
+    HSD_RUN = 19,               /* a run that holds 4,096 files or more, or numbers above its limits */
     HSD_SATELLITE_FIELD = 31,   /* these are values out of their ranges: block 1's satellite */
     HSD_AREA_FIELD = 32,        /* its area */
     HSD_TIMELINE_FIELD = 33,    /* its timeline; with block 0 a timeline of hsd_frame_number */
@@ -243,6 +244,33 @@ HsdAnswer hsd_reel_write(const uint8_t *files, size_t files_length, const uint32
  * with out right after them. */
 HsdAnswer hsd_reel_seal(const uint8_t *files, size_t files_length, const uint32_t *lengths, size_t lengths_length,
                         uint8_t *out, size_t out_length);
+
+/* A run of up to 4,096 files: how many counts of the accepted ones read as each kind, and how many files were accepted and
+ * refused. A run begins as zeros, HsdRun run = {0}, and the run that a call hands back goes into the next one. Whatever
+ * numbers stand in it, it gets an answer. */
+typedef struct HsdRun {
+    uint64_t radiance; /* how many counts are HSD_RADIANCE, and so on */
+    uint64_t error;
+    uint64_t outside;
+    uint64_t over;
+    uint64_t uncalibrated;
+    uint32_t accepted;    /* files */
+    uint32_t refused[64]; /* files, by the number of their refusal; HSD_RUN counts none */
+} HsdRun;
+
+typedef struct HsdNight {
+    uint8_t refusal; /* HSD_FINE; HSD_RUN, told before the file is looked at; or what hsd_accept says of a refused file */
+    uint8_t block;   /* of a file's refusal; else 0 */
+    uint32_t offset; /* of a file's refusal, as in HsdFile; else 0 */
+    int64_t extra;   /* how many counts of an accepted file are HSD_ERROR_PIXEL, less the sum that its block 10 lists: as low
+                        as -4,294,836,225 */
+    HsdRun run;      /* the run with this file in it */
+} HsdNight;
+
+/* Adds a file to a run. Accepted, each kind's total grows by how many of its counts hsd_reading calls so, and accepted by
+ * one; refused, refused[refusal] grows by one, and nothing else. HSD_RUN, with the run as it was: accepted and all of refused
+ * add up to 4,096 or more, a kind's total is above 4,096 x 484,000,000, or one of refused is above 4,096. */
+HsdNight hsd_night_add(HsdRun run, const uint8_t *file, size_t file_length);
 
 #ifdef __cplusplus
 }

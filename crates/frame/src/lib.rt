@@ -109,7 +109,7 @@ fn swapped(x: u16) -> u16
 }
 
 // Swapping the little-endian word, and not adding up the other way round, is what the compiler turns into vector code.
-fn count_of(order: u8, a: u8, b: u8) -> u16
+pub fn count_of(order: u8, a: u8, b: u8) -> u16
     ensures { λ r. ⌜ r ≡ num order (a ∷ b ∷ []) ⌝ }
 {
     if order == 0 {
@@ -120,7 +120,7 @@ fn count_of(order: u8, a: u8, b: u8) -> u16
 }
 
 // What follows a file's header.
-fn counts_in(file: &[u8]) -> &[u8]
+pub fn counts_in(file: &[u8]) -> &[u8]
     ensures { λ r. ⌜ now r ≡ drop (lengthOf (now (file .entry))) (now (file .entry)) ⌝ }
 {
     let a = header::a_of(file);

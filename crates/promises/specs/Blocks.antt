@@ -26,13 +26,14 @@ table =
     ∷ (10, 1 ∷ [])
     ∷ (11, 12 ∷ [])
     ∷ (12, 12 ∷ [])
-    -- SLATE, STRIP, OTHER SHOT, ALREADY, ROOM, REEL
+    -- SLATE, STRIP, OTHER SHOT, ALREADY, ROOM, REEL, RUN
     ∷ (13, 0 ∷ [])
     ∷ (14, 0 ∷ [])
     ∷ (15, 0 ∷ [])
     ∷ (16, 0 ∷ [])
     ∷ (17, 0 ∷ [])
     ∷ (18, 0 ∷ [])
+    ∷ (19, 0 ∷ [])
     -- satellite, area, timeline, columns or lines, compression flag, band, valid bits, segment numbers or first line, day
     ∷ (31, 1 ∷ [])
     ∷ (32, 1 ∷ [])

@@ -6,7 +6,7 @@ use Prim.Native.Nat.{ℕ}
 use lib.Dec.{eqb}
 use Rattle.rules.specs.Rules.{numberOf, Turned, turned, paperOf, Ruling, fine, refused, paper}
 use Rattle.rules.specs.declared.Why.{Why}
-use Rattle.rules.specs.declared.Why.the-variants.{Short, Number, Order, Length, Fixed, Packed, HeaderSum, DataSum, Name, Cut, Tail, Slate, Strip, OtherShot, Already, Room, Reel, Satellite, Area, Timeline, Size, Compression, Band, Bits, Segment, Day}
+use Rattle.rules.specs.declared.Why.the-variants.{Short, Number, Order, Length, Fixed, Packed, HeaderSum, DataSum, Name, Cut, Tail, Slate, Strip, OtherShot, Already, Room, Reel, Run, Satellite, Area, Timeline, Size, Compression, Band, Bits, Segment, Day}
 use Rattle.rules.specs.declared.Refusal.{Refusal}
 use Rattle.rules.specs.declared.Verdict.{Verdict}
 use Rattle.rules.specs.declared.Verdict.the-variants.{Fine, Refused}
@@ -35,6 +35,7 @@ named n =
     (when (eqb n 16) Already
     (when (eqb n 17) Room
     (when (eqb n 18) Reel
+    (when (eqb n 19) Run
     (when (eqb n 31) Satellite
     (when (eqb n 32) Area
     (when (eqb n 33) Timeline
@@ -42,7 +43,7 @@ named n =
     (when (eqb n 35) Compression
     (when (eqb n 36) Band
     (when (eqb n 37) Bits
-    (when (eqb n 38) Segment Day))))))))))))))))))))))))
+    (when (eqb n 38) Segment Day)))))))))))))))))))))))))
 
 pub named-number : (w : Why) → named (numberOf w) ≡ w
 unfolding named
@@ -63,6 +64,7 @@ named-number OtherShot = refl
 named-number Already = refl
 named-number Room = refl
 named-number Reel = refl
+named-number Run = refl
 named-number Satellite = refl
 named-number Area = refl
 named-number Timeline = refl

@@ -4,7 +4,7 @@ use mathlib.Core.Path.{_≡_}
 use mathlib.Core.List.{List, [], _∷_, _++_}
 use mathlib.Core.Bool.{Bool, true, false}
 use Rattle.rules.specs.declared.Why.{Why}
-use Rattle.rules.specs.declared.Why.the-variants.{Short, Number, Order, Length, Fixed, Packed, HeaderSum, DataSum, Name, Cut, Tail, Slate, Strip, OtherShot, Already, Room, Reel, Satellite, Area, Timeline, Size, Compression, Band, Bits, Segment, Day}
+use Rattle.rules.specs.declared.Why.the-variants.{Short, Number, Order, Length, Fixed, Packed, HeaderSum, DataSum, Name, Cut, Tail, Slate, Strip, OtherShot, Already, Room, Reel, Run, Satellite, Area, Timeline, Size, Compression, Band, Bits, Segment, Day}
 use Rattle.rules.specs.declared.Refusal.{Refusal}
 use Rattle.rules.specs.declared.Verdict.{Verdict}
 use Rattle.rules.specs.declared.Verdict.the-variants as verdicts
@@ -28,6 +28,7 @@ numberOf OtherShot = 15
 numberOf Already = 16
 numberOf Room = 17
 numberOf Reel = 18
+numberOf Run = 19
 numberOf Satellite = 31
 numberOf Area = 32
 numberOf Timeline = 33
