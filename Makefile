@@ -12,7 +12,7 @@ proved = crates.txt $(shell find crates -name '*.rt' -o -name '*.antt')
 all: $(out)/libpanulimbe.a $(out)/panulimbe
 
 # The crates whose functions C calls, one archive each; libpanulimbe.a is their members in one.
-exporting = plugin plugin_frames plugin_reels
+exporting = plugin plugin_frames plugin_reels plugin_night
 archives = $(exporting:%=target/staticlib/lib%.a)
 
 target/staticlib/lib%.a: $(proved)

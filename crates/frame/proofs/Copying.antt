@@ -1,16 +1,18 @@
 -- Laws on `counts`, and on the loop that copies them from the front.
 -- Assumes nothing.
-use mathlib.Core.Path.{_≡_, refl, ap, _∙_}
+use mathlib.Core.Path.{_≡_, refl, sym, ap, _∙_}
+use mathlib.Core.Bool.{true, false, _&&_, false≢true, and-eq-true-iff}
 use mathlib.Core.List.{List, [], _∷_, _++_, append-nil}
 use Prim.Native.Nat.{ℕ, zero, suc, _+_, _*_, _/_, _%_, _<_, _≤_}
 use native.Mathlib.Nat.{not-suc-le-zero, le-of-suc-le-suc}
 use native.Mathlib.Numerals.{add-one}
 use native.Mathlib.Omega.{arith}
-use borrow.Author.Tests.{ne-eqb}
+use borrow.Author.Tests.{eq-eqb, ne-eqb, eqb-true}
+use lib.Dec.{eqb}
 use lib.ListN.{length, set, take, drop, getD, drop-of-length-le}
 use lib.Seq.{take-all}
 use Rattle.wire.specs.Wire.{num, low}
-use Rattle.frame.specs.Counts.{counts}
+use Rattle.frame.specs.Counts.{counts, filled}
 
 -- a turn of the loop
 copy-suc : (n : ℕ) (s d : List ℕ) → n < length d → n < length s → set (take n s ++ drop n d) n (getD s n 0) ≡ take (suc n) s ++ drop (suc n) d
@@ -28,7 +30,7 @@ counts-length o (a ∷ []) n h = absurd (omega arith)
 counts-length o (a ∷ b ∷ r) zero h = absurd (omega arith)
 counts-length o (a ∷ b ∷ r) (suc n) h = ap suc (counts-length o r n (omega arith))
 
-counts-at : (o : ℕ) (s : List ℕ) (i : ℕ) → i * 2 + 1 < length s → getD (counts o s) i 0 ≡ num o (getD s (i * 2) 0 ∷ getD s (i * 2 + 1) 0 ∷ [])
+pub counts-at : (o : ℕ) (s : List ℕ) (i : ℕ) → i * 2 + 1 < length s → getD (counts o s) i 0 ≡ num o (getD s (i * 2) 0 ∷ getD s (i * 2 + 1) 0 ∷ [])
 counts-at o [] i h = absurd (omega arith)
 counts-at o (a ∷ []) i h = absurd (omega arith)
 counts-at o (a ∷ b ∷ r) zero h = refl
@@ -51,6 +53,26 @@ pub copied-all : (o : ℕ) (s d₀ d : List ℕ) (i : ℕ) → length s ≡ leng
 copied-all o s d₀ d i hs hi hd =
     let l : length (counts o s) ≡ length d₀ = counts-length o s (length d₀) hs in
     hd ∙ rw (take-all i (counts o s) (omega arith), drop-of-length-le d₀ hi, append-nil)
+
+-- bytes that hold as many counts as there is room for
+pub twice-whole : (n m : ℕ) → (eqb (n % 2) 0 && eqb (n / 2) m) ≡ true → n ≡ m * 2
+twice-whole n m e =
+    let h = and-eq-true-iff (eqb (n % 2) 0) (eqb (n / 2) m) .0 e in
+    omega (arith, eqb-true (n % 2) 0 (h .0), eqb-true (n / 2) m (h .1))
+
+twice-not : (n m : ℕ) → (eqb (n % 2) 0 && eqb (n / 2) m) ≡ false → n ≡ m * 2 → ⊥
+twice-not n m e h = false≢true (sym e ∙ rw (eq-eqb (n % 2) 0 (omega arith), eq-eqb (n / 2) m (omega arith)))
+
+pub filled-twice : (o : ℕ) (s d : List ℕ) → length s ≡ length d * 2 → filled o s d ≡ counts o s
+unfolding filled
+filled-twice o s d e = rw (eq-eqb (length s) (length d * 2) e)
+
+pub filled-whole : (o : ℕ) (s d : List ℕ) → (eqb (length s % 2) 0 && eqb (length s / 2) (length d)) ≡ true → counts o s ≡ filled o s d
+filled-whole o s d e = sym (filled-twice o s d (twice-whole (length s) (length d) e))
+
+pub filled-else : (o : ℕ) (s d : List ℕ) → (eqb (length s % 2) 0 && eqb (length s / 2) (length d)) ≡ false → d ≡ filled o s d
+unfolding filled
+filled-else o s d e = rw (ne-eqb (length s) (length d * 2) (twice-not (length s) (length d) e))
 
 -- ---- the count that two bytes hold
 

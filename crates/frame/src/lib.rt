@@ -11,7 +11,7 @@ ghost use lib.ListN.{length, drop, replicate};
 ghost use Rattle.wire.specs.Wire.{num};
 ghost use Rattle.header.specs.Places.{lengthOf};
 ghost use Rattle.rules.specs.Rules.{paper, fine, judge};
-ghost use Rattle.frame.specs.Counts.{counts};
+ghost use Rattle.frame.specs.Counts.{counts, filled};
 ghost use Rattle.frame.specs.Records.{noMarks, marked, mark, noneAbove, oneOf, tallyOf};
 ghost use Rattle.frame.specs.Frames.{opened, unwritten, openFrame, ready, placing, offered, putAt, recordAfter, frameAfter};
 ghost use Rattle.frame.specs.Lines.{lineGood, lineOf};
@@ -138,6 +138,15 @@ fn place(dst: &mut [u16], src: &[u8], order: u8)
     while i < dst.len() {
         dst[i] = count_of(order, src[i * 2], src[i * 2 + 1]);
         i += 1;
+    }
+}
+
+// The same for what lies above: where the counts don't fill `dst`, it stays as it was.
+pub fn counts_into(dst: &mut [u16], src: &[u8], order: u8)
+    ensures { λ _. ⌜ now (dst .exit) ≡ filled order (now (src .entry)) (now (dst .entry)) ⌝ }
+{
+    if (src.len() % 2 == 0) & (src.len() / 2 == dst.len()) {
+        place(dst, src, order);
     }
 }
 

@@ -1,0 +1,5 @@
+-- The laws that the proofs cite.
+pub mod Signed
+pub mod Running
+pub mod Adding
+pub mod Growing

@@ -1,0 +1,77 @@
+-- How many counts an accepted file has, and what its totals come to.
+-- Assumes nothing.
+use mathlib.Core.Path.{_≡_, refl, _∙_}
+use mathlib.Core.Bool.{Bool, cond, and-eq-true-iff}
+use mathlib.Core.List.{List, [], _∷_}
+use Prim.Native.Nat.{ℕ, _+_, _*_, _-_, _≤_}
+use native.Mathlib.Nat.{mul-le-mul, mul-comm}
+use native.Mathlib.Omega.{arith}
+use borrow.Author.Tests.{leb-true}
+use lib.Dec.{leb}
+use lib.ListN.{length, drop, length-drop}
+use Rattle.rules.specs.Rules.{fine, judge}
+use Rattle.header.specs.Places.{orderOf, lengthOf}
+use Rattle.header.specs.Values.{block2Of}
+use Rattle.accept.specs.Checks.{checks, fields2}
+use Rattle.accept.specs.Answers.{factsOf}
+use Rattle.accept.proofs.Known.{known}
+use Rattle.accept.proofs.Tables.{accepted}
+use Rattle.reading.specs.declared.Reading.{Reading}
+use Rattle.reading.specs.declared.Reading.the-variants.{Radiance, ErrorPixel, Outside, OverRange, Uncalibrated}
+use Rattle.reading.specs.declared.Calibration.{Calibration}
+use Rattle.reading.specs.Counts.{readingOf}
+use Rattle.frame.specs.Counts.{counts, countsOf}
+use Rattle.frame.proofs.Copying.{counts-length}
+use Rattle.totals.specs.declared.Totals.{Totals}
+use Rattle.totals.specs.Kinds.{isRadiance, isError, isOutside, isOver, isUncalibrated, number, countBy}
+use Rattle.totals.specs.Counting.{Totalled}
+use Rattle.totals.specs.Files.{calOf, totalsOf}
+use Rattle.totals.proofs.Number.{number-most}
+
+-- ---- how many counts an accepted file has
+
+pub record Sized (f : List ℕ) : Type 0 where
+  pub bytes : length (drop (lengthOf f) f) ≤ 968000000
+  pub number : length (countsOf f) ≡ factsOf f .columns * factsOf f .lines
+  pub most : length (countsOf f) ≤ 484000000
+
+pub sized : (f : List ℕ) → judge fine (checks f) ≡ fine → Sized f
+unfolding factsOf fields2 block2Of countsOf
+sized f e =
+    let a = accepted f e in
+    let c : factsOf f .columns ≤ 22000 = leb-true _ _ (and-eq-true-iff (leb 1 (factsOf f .columns)) (leb (factsOf f .columns) 22000) .0 (a .fields2 .1 .0) .1) in
+    let l : factsOf f .lines ≤ 22000 = leb-true _ _ (and-eq-true-iff (leb 1 (factsOf f .lines)) (leb (factsOf f .lines) 22000) .0 (a .fields2 .1 .1 .0) .1) in
+    let m : factsOf f .columns * factsOf f .lines ≤ 484000000 = mul-le-mul c l in
+    let b : length (drop (lengthOf f) f) ≡ factsOf f .columns * factsOf f .lines * 2 = length-drop (lengthOf f) f ∙ known f e .counts ∙ twice (factsOf f .columns) (factsOf f .lines) in
+    let n : length (counts (orderOf f) (drop (lengthOf f) f)) ≡ factsOf f .columns * factsOf f .lines = counts-length (orderOf f) (drop (lengthOf f) f) _ b in
+    record { bytes = omega (arith, m, b); number = n; most = omega (arith, m, n) }
+  where
+    twice : (c h : ℕ) → 2 * c * h ≡ c * h * 2
+    twice c h = omega (arith, mul-comm c h)
+
+-- ---- the totals
+
+pub totals-most : (f : List ℕ) → Sized f
+    → (totalsOf f .radiance ≤ 484000000) × (totalsOf f .error ≤ 484000000) × (totalsOf f .outside ≤ 484000000) × (totalsOf f .over ≤ 484000000) × (totalsOf f .uncalibrated ≤ 484000000)
+unfolding totalsOf
+totals-most f s = (most isRadiance, most isError, most isOutside, most isOver, most isUncalibrated)
+  where
+    most : (rule : Reading → Bool) → countBy rule (calOf f) (countsOf f) ≤ 484000000
+    most rule = omega (arith, s .most, number-most (λ (c : ℕ). rule (readingOf (calOf f) c)) (countsOf f))
+
+pub totals-are : (f : List ℕ) (t : Totals) → Totalled (calOf f) (countsOf f) (t .radiance) (t .error) (t .outside) (t .over) (t .uncalibrated) → t ≡ totalsOf f
+unfolding totalsOf
+totals-are f t k = λ i. record { radiance = k .is-radiance i; error = k .is-error i; outside = k .is-outside i; over = k .is-over i; uncalibrated = k .is-uncalibrated i }
+
+-- the five kinds share out every reading
+shared : (r : Reading) → cond (isRadiance r) 1 0 + cond (isError r) 1 0 + cond (isOutside r) 1 0 + cond (isOver r) 1 0 + cond (isUncalibrated r) 1 0 ≡ 1
+shared (Radiance x) = omega arith
+shared ErrorPixel = omega arith
+shared Outside = omega arith
+shared OverRange = omega arith
+shared Uncalibrated = omega arith
+
+pub five : (cal : Calibration) (cs : List ℕ) → countBy isRadiance cal cs + countBy isError cal cs + countBy isOutside cal cs + countBy isOver cal cs + countBy isUncalibrated cal cs ≡ length cs
+unfolding number
+five cal [] = refl
+five cal (c ∷ cs) = omega (arith, five cal cs, shared (readingOf cal c))
