@@ -32,6 +32,10 @@ use Rattle.reel.specs.Writing.{writing, written}
 use Rattle.plugin.specs.declared.HsdAnswer.{HsdAnswer}
 use Rattle.plugin.specs.Plugin.{shownRuling}
 use Rattle.plugin_frames.specs.Strips.{slateIn, longMarks, goodMarks, lent, marksIn, openedC, offeredC, openMarks, openStrip, offerMarks, offerStrip, lineC}
+use Rattle.night.specs.Runs as nights
+use Rattle.night.proofs.add.Reads as add
+use Rattle.plugin_night.specs.Night.{runIn}
+use Rattle.plugin_night.proofs.hsd_night_add.Reads as hsd-night-add
 use Rattle.calendar.proofs.day_of.Reads as day-of
 use Rattle.calendar.proofs.slot.Reads as slot
 use Rattle.calendar.proofs.frame_number.Reads as frame-number
@@ -341,3 +345,15 @@ of-hsd-offer κ a r t p =
 -- a line that is refused, the one refusal without a number, is no count
 pub of-hsd-line : (κ : _) (a : _) (r : _) (t : _) → hsd-line.Post κ a r t → r ≡ 0 → now (t .1 .1 .1 .1 .1 .0) ≡ now (a .1 .1 .1 .1 .1 .0)
 of-hsd-line κ a r t p e = p .1 ∙ none-left (lineC (a .0) (now (a .1 .0)) (now (a .1 .1 .0)) (now (a .1 .1 .1 .0)) (a .1 .1 .1 .1 .0)) (now (a .1 .1 .1 .1 .1 .0)) (sym (p .0) ∙ e)
+
+-- ---- night totals: what is lent is the file alone, and the run goes by value (Night: `Adds` says what a refusal leaves of it)
+
+in-night : (run : _) (f : List ℕ) → inTable (nights.adding run f) ≡ true
+unfolding nights.adding nights.opening tables inTable allowed
+in-night run f = in-append (checks f) [] (in-checks f) refl
+
+pub of-add : (κ : _) (a : _) (r : _) (t : _) → add.Post κ a r t → (u : Turned) → paper (r .verdict) ≡ refused u → allowed u ≡ true
+of-add κ a r t p u e = refused-in (nights.adding (a .0) (now (a .1 .0))) (in-night (a .0) (now (a .1 .0))) u (sym (p .0) ∙ e)
+
+pub of-hsd-night-add : (κ : _) (a : _) (r : _) (t : _) → hsd-night-add.Post κ a r t → allowedC (r .refusal) (r .block) (r .offset) ≡ true
+of-hsd-night-add κ a r t p = rw p (shown-allowed (nights.adding (runIn (a .0)) (now (a .1 .0))) (in-night (runIn (a .0)) (now (a .1 .0))) _ refl)

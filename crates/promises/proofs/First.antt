@@ -28,6 +28,8 @@ use Rattle.reader.proofs.read.Reads as read
 use Rattle.reader.proofs.read_shifts.Reads as read-shifts
 use Rattle.reader.proofs.read_times.Reads as read-times
 use Rattle.reader.proofs.read_errors.Reads as read-errors
+use Rattle.night.specs.Runs.{adding}
+use Rattle.night.proofs.add.Reads as add
 
 -- a ruling that is a table's
 ruling : {r : Ruling} (rs : List Row) → r ≡ judge fine rs → (u : Turned) → (r ≡ refused u) ↔ First rs u
@@ -92,3 +94,8 @@ pub of-frame-number : (κ : _) (a : _) (r : _) (t : _) → frame-number.Post κ 
     → (paperFrame r ≡ refuses u) ↔ First (shots (a .0) (a .1 .0) (a .1 .1 .0) (a .1 .1 .1 .0)) u
 unfolding filmFrameOf
 of-frame-number κ a r t p = answer _ _ p
+
+-- ---- night totals: RUN, and then the file's own
+
+pub of-add : (κ : _) (a : _) (r : _) (t : _) → add.Post κ a r t → (u : Turned) → (paper (r .verdict) ≡ refused u) ↔ First (adding (a .0) (now (a .1 .0))) u
+of-add κ a r t p = ruling _ (p .0)

@@ -16,4 +16,6 @@ pub mod Demand3
 pub mod FromC
 pub mod Quality
 pub mod Reeled
+pub mod Adding
+pub mod Night
 pub mod Reels

@@ -1,5 +1,9 @@
 -- Every refusal of a file says which of its fields is the first at fault, and where that field stands: of every function that refuses, and of C's.
 -- Assumes nothing.
+use Rattle.night.specs.Runs as nights
+use Rattle.night.proofs.add.Reads as add
+use Rattle.plugin_night.specs.Night.{runIn}
+use Rattle.plugin_night.proofs.hsd_night_add.Reads as hsd-night-add
 use mathlib.Core.Path.{_≡_, refl, sym, ap, _∙_}
 use mathlib.Core.Bool.{Bool, true, false, _&&_, and-eq-true-iff}
 use mathlib.Core.List.{List, [], _∷_, _++_}
@@ -183,6 +187,15 @@ of-write-reel κ a r t p h u e = rw (← handed-listed h) (wrote-of _ _ _ _ u (s
 pub of-seal : (κ : _) (a : _) (r : _) (t : _) → seal.Post κ a r t → {fs : List File} → Handed (now (a .0)) (now (a .1 .0)) fs → (u : Turned) → paper r ≡ refused u → Concerns fs u
 of-seal κ a r t p h u e = rw (← handed-listed h) (wrote-of _ _ _ _ u (sym (p .0) ∙ e))
 
+-- ---- night totals
+
+added-for : (run : _) (f : File) (u : Turned) → First (nights.adding run f) u → Concerns (f ∷ []) u
+unfolding nights.adding nights.opening tables
+added-for run f u h = between (f ∷ []) (nights.opening run) (checks f) [] u refl refl (alone f u) h
+
+pub of-add : (κ : _) (a : _) (r : _) (t : _) → add.Post κ a r t → (u : Turned) → paper (r .verdict) ≡ refused u → Concerns (now (a .1 .0) ∷ []) u
+of-add κ a r t p u e = added-for (a .0) (now (a .1 .0)) u (first.of-add κ a r t p u .0 e)
+
 -- ---- the listing
 
 stored : (s before after : List ℕ) (r : ℕ) → Listed s before after r → take r after ≡ listing.listed s
@@ -271,3 +284,6 @@ pub of-hsd-frame-number : (κ : _) (a : _) (r : _) (t : _) → hsd-frame-number.
     → First (filmFields (a .0) (a .1 .0) (a .1 .1 .0) (a .1 .1 .1 .0)) (turned (r .refusal) (r .block) (r .offset))
 unfolding filmFrameOf shots
 of-hsd-frame-number κ a r t p = rw p (λ h. first-fails (shots (a .0) (a .1 .0) (a .1 .1 .0) (a .1 .1 .1 .0)) _ .0 (shown-frame (judge fine (shots (a .0) (a .1 .0) (a .1 .1 .0) (a .1 .1 .1 .0))) _ h))
+
+pub of-hsd-night-add : (κ : _) (a : _) (r : _) (t : _) → hsd-night-add.Post κ a r t → (r .refusal ≡ 0 → ⊥) → Concerns (now (a .1 .0) ∷ []) (turned (r .refusal) (r .block) (r .offset))
+of-hsd-night-add κ a r t p = rw p (λ h. added-for _ _ _ (first-fails _ _ .0 (shown-ruling (nights.added (runIn (a .0)) (now (a .1 .0))) h)))

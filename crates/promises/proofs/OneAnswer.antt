@@ -88,6 +88,14 @@ use Rattle.samples.proofs.make.Reads as make-sample
 use Rattle.frame.proofs.open.Reads as opening
 use Rattle.frame.proofs.offer.Reads as offering
 use Rattle.frame.proofs.line_of.Reads as line-of
+use Rattle.frame.proofs.count_of.Reads as count-of
+use Rattle.frame.proofs.counts_in.Reads as counts-in
+use Rattle.frame.proofs.counts_into.Reads as counts-into
+use Rattle.totals.proofs.totals_of.Reads as totals-of
+use Rattle.totals.proofs.pixels_of.Reads as pixels-of
+use Rattle.night.proofs.empty.Reads as empty-night
+use Rattle.night.proofs.add.Reads as add
+use Rattle.plugin_night.proofs.hsd_night_add.Reads as hsd-night-add
 use Rattle.reel.proofs.check_reel.Reads as check-reel
 use Rattle.reel.proofs.open.Reads as open-reel
 use Rattle.reel.proofs.place_of.Reads as place-in-reel
@@ -527,6 +535,33 @@ hsd-reel-write-one = (λ κ a x y s t p q. p .0 ∙ sym (q .0), λ κ a x y s t 
 
 pub hsd-reel-seal-one : One (λ κ x s. x) hsd-reel-seal.Post × One (λ κ x s. now (s .1 .1 .0)) hsd-reel-seal.Post
 hsd-reel-seal-one = (λ κ a x y s t p q. p .0 ∙ sym (q .0), λ κ a x y s t p q. p .1 ∙ sym (q .1))
+
+-- ---- night totals
+
+pub count-of-one : One (λ κ x s. x) count-of.Post
+count-of-one κ a x y s t p q = p ∙ sym q
+
+pub counts-in-one : One (λ κ x s. now x) counts-in.Post
+counts-in-one κ a x y s t p q = p ∙ sym q
+
+pub counts-into-one : One (λ κ x s. now (s .0)) counts-into.Post
+counts-into-one κ a x y s t p q = p ∙ sym q
+
+pub totals-of-one : One (λ κ x s. x) totals-of.Post
+totals-of-one κ a x y s t p q = p ∙ sym q
+
+pub pixels-of-one : One (λ κ x s. x) pixels-of.Post
+pixels-of-one κ a x y s t p q = p ∙ sym q
+
+pub empty-night-one : One (λ κ x s. x) empty-night.Post
+empty-night-one κ a x y s t p q = p ∙ sym q
+
+-- the verdict, the difference and the run stand side by side
+pub add-one : One (λ κ x s. x) add.Post
+add-one κ a x y s t p q = λ i. record { verdict = paper-one (x .verdict) (y .verdict) (p .0 ∙ sym (q .0)) i; extra = (p .1 .0 ∙ sym (q .1 .0)) i; run = (p .1 .1 ∙ sym (q .1 .1)) i }
+
+pub hsd-night-add-one : One (λ κ x s. x) hsd-night-add.Post
+hsd-night-add-one κ a x y s t p q = p ∙ sym q
 
 -- ---- samples
 

@@ -12,3 +12,4 @@ pub mod Runs
 pub mod Slated
 pub mod Quality
 pub mod Reels
+pub mod Night

@@ -31,7 +31,6 @@ use Rattle.totals.proofs.Number.{number-most}
 -- ---- how many counts an accepted file has
 
 pub record Sized (f : List ℕ) : Type 0 where
-  pub bytes : length (drop (lengthOf f) f) ≤ 968000000
   pub number : length (countsOf f) ≡ factsOf f .columns * factsOf f .lines
   pub most : length (countsOf f) ≤ 484000000
 
@@ -44,7 +43,7 @@ sized f e =
     let m : factsOf f .columns * factsOf f .lines ≤ 484000000 = mul-le-mul c l in
     let b : length (drop (lengthOf f) f) ≡ factsOf f .columns * factsOf f .lines * 2 = length-drop (lengthOf f) f ∙ known f e .counts ∙ twice (factsOf f .columns) (factsOf f .lines) in
     let n : length (counts (orderOf f) (drop (lengthOf f) f)) ≡ factsOf f .columns * factsOf f .lines = counts-length (orderOf f) (drop (lengthOf f) f) _ b in
-    record { bytes = omega (arith, m, b); number = n; most = omega (arith, m, n) }
+    record { number = n; most = omega (arith, m, n) }
   where
     twice : (c h : ℕ) → 2 * c * h ≡ c * h * 2
     twice c h = omega (arith, mul-comm c h)
@@ -71,7 +70,11 @@ shared Outside = omega arith
 shared OverRange = omega arith
 shared Uncalibrated = omega arith
 
-pub five : (cal : Calibration) (cs : List ℕ) → countBy isRadiance cal cs + countBy isError cal cs + countBy isOutside cal cs + countBy isOver cal cs + countBy isUncalibrated cal cs ≡ length cs
+five : (cal : Calibration) (cs : List ℕ) → countBy isRadiance cal cs + countBy isError cal cs + countBy isOutside cal cs + countBy isOver cal cs + countBy isUncalibrated cal cs ≡ length cs
 unfolding number
 five cal [] = refl
 five cal (c ∷ cs) = omega (arith, five cal cs, shared (readingOf cal c))
+
+pub five-of : (f : List ℕ) → Sized f → totalsOf f .radiance + totalsOf f .error + totalsOf f .outside + totalsOf f .over + totalsOf f .uncalibrated ≡ factsOf f .columns * factsOf f .lines
+unfolding totalsOf
+five-of f s = five (calOf f) (countsOf f) ∙ s .number
