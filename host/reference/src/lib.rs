@@ -1,7 +1,8 @@
 //! A second opinion on which satellite files are accepted and which field of the others is at fault, what
 //! their quality flag says, which headers are read and written, what frames show, which number a shot has
-//! on the film and which reels are opened and written, from documents 01 and 02 alone, and the inputs on
-//! which it is compared with the proved library and with what the programs of cases must print.
+//! on the film, which reels are opened and written and what a night's files add up to, from documents 01
+//! and 02 alone, and the inputs on which it is compared with the proved library and with what the programs
+//! of cases must print.
 
 pub mod accept;
 pub mod assemble;
@@ -13,6 +14,7 @@ pub mod images;
 pub mod lists;
 pub mod make;
 pub mod mix;
+pub mod night;
 pub mod proved;
 pub mod quality;
 pub mod random;
