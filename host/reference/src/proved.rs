@@ -1,11 +1,12 @@
-//! The proved library's acceptance, marks, film frame numbers, assembly and reels, asked over the bridge, and the
-//! comparison of an acceptance with the reference's.
+//! The proved library's acceptance, marks, film frame numbers, assembly, reels and night totals, asked over the bridge,
+//! and the comparison of an acceptance with the reference's.
 
 use std::io::{self, BufReader, BufWriter, Read, Write};
 use std::process::{Child, ChildStdin, ChildStdout, Command, Stdio};
 
 use crate::accept::{numbers, Answer, Facts, Refusal};
 use crate::histories::History;
+use crate::night::Run;
 
 /// What `hsd_accept` gives back. 0 is accepted, with the offset 0; on a refusal everything but refusal, block and offset
 /// is 0.
@@ -128,6 +129,14 @@ impl Requests {
         self.question(6, &[&numbers.concat()])
     }
 
+    /// Asks to add a file to a run, question 7. Four bytes of padding end the run, which may hold anything.
+    pub fn ask_night(&mut self, run: &Run, file: &[u8]) -> io::Result<()> {
+        let totals = run.totals.map(u64::to_le_bytes).concat();
+        let accepted = run.accepted.to_le_bytes();
+        let refused = run.refused.map(u32::to_le_bytes).concat();
+        self.question(7, &[&totals, &accepted, &refused, &[0xaa; 4], file])
+    }
+
     fn ask_writer(
         &mut self,
         question: u64,
@@ -218,6 +227,17 @@ impl Answers {
     pub fn next_frame_number(&mut self) -> io::Result<(Answer, i64)> {
         let b: [u8; 16] = self.next_bytes()?;
         Ok(((b[0], b[1], four(&b, 4)), eight(&b, 8) as i64))
+    }
+
+    /// The members of an `HsdNight`: refusal, block and offset, the extra error pixels, and the run.
+    pub fn next_night(&mut self) -> io::Result<(Answer, i64, Run)> {
+        let b: [u8; 320] = self.next_bytes()?;
+        let run = Run {
+            totals: std::array::from_fn(|kind| eight(&b, 16 + 8 * kind)),
+            accepted: four(&b, 56),
+            refused: std::array::from_fn(|number| four(&b, 60 + 4 * number)),
+        };
+        Ok(((b[0], b[1], four(&b, 4)), eight(&b, 8) as i64, run))
     }
 
     /// So many bytes of a history's answer.
