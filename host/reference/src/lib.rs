@@ -15,6 +15,8 @@ pub mod lists;
 pub mod make;
 pub mod mix;
 pub mod night;
+pub mod nights;
+pub mod poses;
 pub mod proved;
 pub mod quality;
 pub mod random;
