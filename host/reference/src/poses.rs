@@ -53,7 +53,7 @@ pub fn alone() -> Vec<Run> {
     [Run::EMPTY].into_iter().chain(posed).collect()
 }
 
-/// Two numbers are there. Of the places two are of no refusal, one is RUN's own, and one is the last.
+/// Two numbers are there. Of the places three are of no refusal, the first and the last among them, and one is RUN's own.
 pub fn pairs() -> Vec<Run> {
     let all = limits(&[0, 1, 7, 19, 38, 63]);
     let mut runs = Vec::new();
@@ -153,7 +153,7 @@ fn thrown(files: u64, random: &mut Random) -> Run {
     run
 }
 
-/// Each number is small, close to the limit, or any; most are 0.
+/// Each number is 0, small, close to the limit, or any; in some runs nearly all are 0.
 fn wild(random: &mut Random) -> Run {
     let common = random.pick(&[4, 20, 100]);
     let mut files = || match random.below(common) {
