@@ -289,6 +289,34 @@ fn every_calibration() {
     seen.check(300, 19 * 4);
 }
 
+/// Each of the 65,536 counts once, so that the totals tell from which count on a calibration gives no finite number. With 11,
+/// 12 and 14 valid bits, in both byte orders, five times.
+#[test]
+fn every_count() {
+    let all: Vec<u64> = (0..65_536).collect();
+    let seen = compare(&[], move |asker| {
+        let mut random = Random::new(7);
+        asker.begin(&Run::EMPTY);
+        for calibration in CALIBRATIONS.into_iter().cycle().take(19 * 5) {
+            for (band, order) in [(3, 0), (3, 1), (7, 0), (7, 1), (13, 0), (13, 1)] {
+                let recipe = Recipe {
+                    order,
+                    band,
+                    ..sized(65_536, &mut random)
+                };
+                let mut sample = planted(&recipe, calibration, &mut random);
+                put_counts(&mut sample, &all);
+                asker.add(calibration.0, &sample.bytes);
+            }
+        }
+    });
+    assert_eq!(seen.files, 19 * 5 * 6);
+    seen.answers.check(seen.files, 0, 0);
+    let [_, error, outside, over, _] = seen.kinds;
+    assert_eq!([error, outside, over], [seen.files; 3]);
+    assert!(seen.partly >= 120, "some uncalibrated: {}", seen.partly);
+}
+
 fn bands_and_orders() -> impl Iterator<Item = (u64, u64)> {
     (1..=16).flat_map(|band| [(band, 0), (band, 1)])
 }
