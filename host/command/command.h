@@ -16,6 +16,7 @@ enum { GOOD = 0, REFUSED = 1, UNUSABLE = 2, UNWRITTEN = 3 };
 /* The subcommands: words[0] is the subcommand's own name. */
 int list(int count, char **words);
 int quality(int count, char **words);
+int night(int count, char **words);
 int frame(int count, char **words);
 int reading(int count, char **words);
 int reel(int count, char **words);

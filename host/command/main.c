@@ -10,6 +10,7 @@
 static const char overview[] =
     "panulimbe list FILE..                                 one line about each file\n"
     "panulimbe quality FILE..                              what quality flag 1 of each file says\n"
+    "panulimbe night FILE..                                what all counts of the files read as, in totals\n"
     "panulimbe frame --slate SLATE -o PICTURE FILE..       a frame put together from its segments\n"
     "panulimbe reading FILE LINE COLUMN                    what one count reads as\n"
     "panulimbe reel write -o REEL FILE..                   whole files in one reel\n"
@@ -46,6 +47,29 @@ static const char quality_help[] =
     "\n"
     "Exit status: 0 all are good, whatever their marks; 1 some file was refused; 2 wrong usage, or some file\n"
     "cannot be read or changed meanwhile; 3 standard output cannot be written.\n";
+
+static const char night_help[] =
+    "panulimbe night [--progress] FILE..\n"
+    "\n"
+    "Prints one line about each file, in the order given: its extra, how many error pixels are found in it less\n"
+    "those that block 10 lists, or why it is refused:\n"
+    "  NAME: extra -3\n"
+    "  NAME: refused 10 NAME, block 1, byte 114\n"
+    "One that cannot be read, or changed while it was read, has no line and is in no total; standard error says\n"
+    "which and why. Then it prints how many counts of the accepted files read as each kind, how many files were\n"
+    "accepted, and how many refused, a line for each refusal that was given:\n"
+    "  radiance 2931724\n"
+    "  error pixels 12\n"
+    "  outside 93264\n"
+    "  over range 0\n"
+    "  uncalibrated 0\n"
+    "  accepted 1\n"
+    "  refused 10 NAME: 2\n"
+    "A run holds 4096 files. Each one after these is 'refused 19 RUN, block 0' and is in no total.\n"
+    "  --progress         show on standard error how far it is\n"
+    "\n"
+    "Exit status: 0 all are accepted; 1 some file was refused; 2 wrong usage, or some file cannot be read or\n"
+    "changed meanwhile; 3 standard output cannot be written.\n";
 
 static const char frame_help[] =
     "panulimbe frame --slate SLATE -o PICTURE [--leader COUNT] [--progress] FILE..\n"
@@ -110,6 +134,7 @@ static const struct {
 } subcommands[] = {
     {"list", list_help, 1, list},
     {"quality", quality_help, 1, quality},
+    {"night", night_help, 1, night},
     {"frame", frame_help, 1, frame},
     {"reading", reading_help, 1, reading},
     {"reel", reel_help, 2, reel},

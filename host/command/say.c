@@ -60,6 +60,7 @@ const char *refusal_name(uint8_t refusal)
     case HSD_ALREADY: return "ALREADY";
     case HSD_ROOM: return "ROOM";
     case HSD_REEL: return "REEL";
+    case HSD_RUN: return "RUN";
     case HSD_SATELLITE_FIELD: return "satellite";
     case HSD_AREA_FIELD: return "area";
     case HSD_TIMELINE_FIELD: return "timeline";
