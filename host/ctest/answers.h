@@ -17,6 +17,18 @@ static inline bool is_reel(HsdReel answer, uint8_t refusal, uint8_t block, uint3
     return answer.refusal == refusal && answer.block == block && answer.offset == offset && answer.files == files;
 }
 
+/* In every number; what stands behind the last one is none. */
+static inline bool is_same_run(const HsdRun *one, const HsdRun *other)
+{
+    return memcmp(one, other, offsetof(HsdRun, refused) + sizeof one->refused) == 0;
+}
+
+static inline bool is_night(HsdNight answer, uint8_t refusal, uint8_t block, uint32_t offset, int64_t extra, const HsdRun *run)
+{
+    return answer.refusal == refusal && answer.block == block && answer.offset == offset && answer.extra == extra &&
+           is_same_run(&answer.run, run);
+}
+
 static inline bool is_zero(double number)
 {
     static const double zero;

@@ -75,6 +75,23 @@ AT(HsdPart, offset, 0, 4);
 AT(HsdPart, length, 4, 4);
 WHOLE(HsdPart, 8, 4);
 
+AT(HsdRun, radiance, 0, 8);
+AT(HsdRun, error, 8, 8);
+AT(HsdRun, outside, 16, 8);
+AT(HsdRun, over, 24, 8);
+AT(HsdRun, uncalibrated, 32, 8);
+AT(HsdRun, accepted, 40, 4);
+AT(HsdRun, refused, 44, 256);
+AT(HsdRun, refused[63], 296, 4);
+WHOLE(HsdRun, 304, 8);
+
+AT(HsdNight, refusal, 0, 1);
+AT(HsdNight, block, 1, 1);
+AT(HsdNight, offset, 4, 4);
+AT(HsdNight, extra, 8, 8);
+AT(HsdNight, run, 16, 304);
+WHOLE(HsdNight, 320, 8);
+
 /* All that hsd.h has, as host/ctest/run makes sure: 7 is nothing's number. */
 #define NUMBERED(name, number) _Static_assert(name == (number), #name)
 
@@ -96,6 +113,7 @@ NUMBERED(HSD_OTHER_SHOT, 15);
 NUMBERED(HSD_ALREADY, 16);
 NUMBERED(HSD_ROOM, 17);
 NUMBERED(HSD_REEL, 18);
+NUMBERED(HSD_RUN, 19);
 NUMBERED(HSD_SATELLITE_FIELD, 31);
 NUMBERED(HSD_AREA_FIELD, 32);
 NUMBERED(HSD_TIMELINE_FIELD, 33);

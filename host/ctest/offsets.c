@@ -328,7 +328,17 @@ static HsdAnswer offered(HsdSlate to, uint8_t mark, size_t size, const uint8_t *
     return answer;
 }
 
-/* A refused file by itself. Slate, marks and frame answer before it, other shots and placed numbers after it. */
+/* Whether a run counts the lent file under its refusal and changes in nothing else; a full one answers before it. */
+static bool is_counted(const uint8_t *lent, HsdAnswer wanted)
+{
+    const HsdRun full = {.accepted = 4095, .refused = {[HSD_NAME] = 1}};
+    HsdRun run = {.error = 7, .accepted = 3, .refused = {[HSD_SHORT] = 5}}, after = run;
+    after.refused[wanted.refusal]++;
+    return is_night(hsd_night_add(run, lent, file.length), wanted.refusal, wanted.block, wanted.offset, 0, &after) &&
+           is_night(hsd_night_add(full, lent, file.length), HSD_RUN, 0, 0, 0, &full);
+}
+
+/* A refused file by itself. Slate, marks, frame and run answer before it, other shots and placed numbers after it. */
 static void check_alone(HsdAnswer wanted)
 {
     const uint8_t *lent = lend(file.bytes, file.length);
@@ -340,6 +350,7 @@ static void check_alone(HsdAnswer wanted)
     CHECK(is(offered(bad_slate, 0, SIZE, lent), HSD_SLATE, 0, 0));
     CHECK(is(offered(slate, 2, SIZE, lent), HSD_SLATE, 0, 0));
     CHECK(is(offered(slate, 0, SIZE - 1, lent), HSD_STRIP, 0, 0));
+    CHECK(is_counted(lent, wanted));
     CHECK(memcmp(lent, file.bytes, file.length) == 0);
 }
 

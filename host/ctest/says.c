@@ -46,6 +46,7 @@ static void check_refusals(void)
     CHECK(strcmp(refusal_name(HSD_ALREADY), "ALREADY") == 0);
     CHECK(strcmp(refusal_name(HSD_ROOM), "ROOM") == 0);
     CHECK(strcmp(refusal_name(HSD_REEL), "REEL") == 0);
+    CHECK(strcmp(refusal_name(HSD_RUN), "RUN") == 0);
     CHECK(strcmp(refusal_name(HSD_SATELLITE_FIELD), "satellite") == 0);
     CHECK(strcmp(refusal_name(HSD_AREA_FIELD), "area") == 0);
     CHECK(strcmp(refusal_name(HSD_TIMELINE_FIELD), "timeline") == 0);
@@ -56,7 +57,7 @@ static void check_refusals(void)
     CHECK(strcmp(refusal_name(HSD_SEGMENT_FIELD), "segment numbers or first line") == 0);
     CHECK(strcmp(refusal_name(HSD_DAY_FIELD), "day") == 0);
     for (unsigned refusal = 0; refusal < 256; refusal++)
-        if (refusal == 7 || (refusal > HSD_REEL && refusal < HSD_SATELLITE_FIELD) || refusal > HSD_DAY_FIELD)
+        if (refusal == 7 || (refusal > HSD_RUN && refusal < HSD_SATELLITE_FIELD) || refusal > HSD_DAY_FIELD)
             CHECK(strcmp(refusal_name((uint8_t)refusal), "UNKNOWN") == 0);
 }
 
@@ -74,6 +75,7 @@ static void check_words(void)
     CHECK(words_are(HSD_PACKED, 2, 291, "refused 6 PACKED, block 2, byte 291"));
     CHECK(words_are(HSD_TAIL, 12, 394563, "refused 12 TAIL, block 12, byte 394563"));
     CHECK(words_are(HSD_OTHER_SHOT, 0, 0, "refused 15 OTHER SHOT, block 0"));
+    CHECK(words_are(HSD_RUN, 0, 0, "refused 19 RUN, block 0"));
     CHECK(words_are(HSD_SATELLITE_FIELD, 1, 6, "refused 31 satellite, block 1, byte 6"));
     CHECK(words_are(HSD_AREA_FIELD, 1, 38, "refused 32 area, block 1, byte 38"));
     CHECK(words_are(HSD_TIMELINE_FIELD, 1, 44, "refused 33 timeline, block 1, byte 44"));
