@@ -413,7 +413,7 @@ static uint64_t any_number(uint64_t limit)
 
 static void check_any_runs(void)
 {
-    unsigned open = 0, all = 20000;
+    unsigned open = 0, all = 10000;
     for (unsigned i = 0; i < all; i++) {
         HsdRun run = {.accepted = (uint32_t)any_number(MOST_FILES)};
         for (size_t kind = 0; kind < KINDS; kind++)
