@@ -1,4 +1,4 @@
-/* Adding a segment to a run, against memcpy of its counts and against two plain ways of reading them one by one, in one run: `night FILE`, a segment of
+/* Adding a segment to a run, against memcpy of its counts and against two plain ways of reading them one by one, in one run: `night FILE..`, segments of
    5,500 x 550 counts in either byte order. */
 #include <math.h>
 #include <string.h>
@@ -91,7 +91,7 @@ static void read_floats(void *with)
     memcpy(seen, totals, sizeof seen);
 }
 
-/* Another processor's build of the library cannot answer by hsd_read_count: it comes back in other registers there (host/bench/native). */
+/* The library's module in another processor's instructions (host/bench/native) has no hsd_read_count: its answer would come back in other registers. */
 #ifdef __x86_64__
 static void read_each(void *with)
 {
@@ -115,21 +115,29 @@ static void compare_counting(const char *what, void (*plain)(void *), Segment *s
     compare(what, add, plain, s);
 }
 
+static void time_segment(const char *name)
+{
+    Segment s = segment_of(name);
+    const char *order = s.order ? "big" : "little";
+    char what[64];
+    snprintf(what, sizeof what, "a %s-endian segment in a run, and memcpy", order);
+    compare(what, add, copy, &s);
+    snprintf(what, sizeof what, "a %s-endian segment in a run, and plain floats", order);
+    compare_counting(what, read_floats, &s);
+#ifdef __x86_64__
+    snprintf(what, sizeof what, "a %s-endian segment in a run, and hsd_read_count", order);
+    compare_counting(what, read_each, &s);
+#endif
+    free(s.file);
+    free(s.copy);
+}
+
 int main(int count, char **words)
 {
-    if (count != 2)
-        fail("give a segment");
-    Segment s = segment_of(words[1]);
-    const char *order = s.order ? "big" : "little";
-    char what[3][64];
-    snprintf(what[0], sizeof *what, "a %s-endian segment in a run, and memcpy", order);
-    snprintf(what[1], sizeof *what, "a %s-endian segment in a run, and plain floats", order);
-    snprintf(what[2], sizeof *what, "a %s-endian segment in a run, and hsd_read_count", order);
-    compare(what[0], add, copy, &s);
-    compare_counting(what[1], read_floats, &s);
-#ifdef __x86_64__
-    compare_counting(what[2], read_each, &s);
-#endif
+    if (count < 2)
+        fail("give segments");
+    for (int i = 1; i < count; i++)
+        time_segment(words[i]);
     printf("HsdRun has %zu bytes, HsdNight %zu\n", sizeof(HsdRun), sizeof(HsdNight));
     return 0;
 }
