@@ -41,9 +41,9 @@ struct Four {
     below: u16,
 }
 
-// Counters as wide as the counts, which at most 4,096 counts can't fill, let this run over many counts at a time.
+// Counters as wide as the counts, which at most 256 counts can't fill, let this run over many counts at a time.
 fn sort_piece(xs: &[u16], limit: u16) -> Four
-    requires { ⌜ length (now xs) ≤ 4096 ⌝ }
+    requires { ⌜ length (now xs) ≤ 256 ⌝ }
     ensures { λ r. ⌜ Sorted limit (now (xs .entry)) (r .error) (r .outside) (r .over) (r .below) ⌝ }
     ensures { λ r. ⌜ (r .error ≤ length (now (xs .entry))) × (r .outside ≤ length (now (xs .entry))) × (r .over ≤ length (now (xs .entry))) × (r .below ≤ length (now (xs .entry))) ⌝ }
 {
@@ -70,7 +70,7 @@ fn sort_piece(xs: &[u16], limit: u16) -> Four
 
 // The counts of some bytes, by way of a lent buffer of their length.
 fn sort_bytes(buffer: &mut [u16], src: &[u8], order: u8, limit: u16) -> Four
-    requires { ⌜ (length (now buffer) ≤ 4096) × (length (now src) ≡ length (now buffer) * 2) ⌝ }
+    requires { ⌜ (length (now buffer) ≤ 256) × (length (now src) ≡ length (now buffer) * 2) ⌝ }
     ensures { λ _. ⌜ length (now (buffer .exit)) ≡ length (now (buffer .entry)) ⌝ }
     ensures { λ r. ⌜ Sorted limit (counts order (now (src .entry))) (r .error) (r .outside) (r .over) (r .below) ⌝ }
     ensures { λ r. ⌜ (r .error ≤ length (now (buffer .entry))) × (r .outside ≤ length (now (buffer .entry))) × (r .over ≤ length (now (buffer .entry))) × (r .below ≤ length (now (buffer .entry))) ⌝ }
@@ -92,11 +92,11 @@ fn least(a: usize, b: usize) -> usize
     if a <= b { a } else { b }
 }
 
-// The same of any length, in pieces of 4,096 counts.
+// The same of any length, in pieces of 256 counts.
 fn sort_all(src: &[u8], order: u8, limit: u16) -> Many
     ensures { λ r. ⌜ Sorted limit (counts order (now (src .entry))) (r .error) (r .outside) (r .over) (r .below) ⌝ }
 {
-    let mut buffer: [u16; 4096] = [0; 4096];
+    let mut buffer: [u16; 256] = [0; 256];
     let n = src.len() / 2;
     let mut at = 0;
     let mut error: u64 = 0;
@@ -104,7 +104,7 @@ fn sort_all(src: &[u8], order: u8, limit: u16) -> Many
     let mut over: u64 = 0;
     let mut below: u64 = 0;
     while at < n {
-        let m = least(4096, n - at);
+        let m = least(256, n - at);
         let from = at * 2;
         let to = from + m * 2;
         let f = sort_bytes(&mut buffer[..m], &src[from..to], order, limit);

@@ -14,7 +14,7 @@ use Rattle.totals.proofs.sort_all.Tie as tie
 
 abbrev Inv-loop : tie.InvT-loop
 Inv-loop src order limit buffer₀ n at₀ error₀ outside₀ over₀ below₀ buffer at error outside over below =
-    (at ≤ n) × (n ≡ length src / 2) × Sorted limit (take at (counts order src)) error outside over below × (error ≤ at) × (outside ≤ at) × (over ≤ at) × (below ≤ at) × (length buffer ≡ 4096)
+    (at ≤ n) × (n ≡ length src / 2) × Sorted limit (take at (counts order src)) error outside over below × (error ≤ at) × (outside ≤ at) × (over ≤ at) × (below ≤ at) × (length buffer ≡ 256)
 
 abbrev μ-loop : tie.MeasureT-loop
 μ-loop src order limit buffer₀ n at₀ error₀ outside₀ over₀ below₀ buffer at error outside over below = n - at
