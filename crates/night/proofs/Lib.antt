@@ -2,4 +2,3 @@
 pub mod Signed
 pub mod Running
 pub mod Adding
-pub mod Growing

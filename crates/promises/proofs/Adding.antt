@@ -6,7 +6,7 @@ use mathlib.Core.Bool.{Bool, true, false, cond, false≢true}
 use mathlib.Core.List.{List, [], _∷_}
 use mathlib.Core.Logic.{_⊎_, inl, inr, ⊎-elim}
 use native.Mathlib.Omega.{arith}
-use borrow.Author.Tests.{eqb-true, eqb-false, eq-eqb, ne-eqb, lt-ltb, le-ltb, ltb-true, ltb-false, leb-true, leb-false}
+use borrow.Author.Tests.{eqb-true, eqb-false, ne-eqb, lt-ltb, le-ltb, ltb-true, ltb-false, leb-true, leb-false}
 use lib.Dec.{eqb, leb, ltb}
 use lib.IntN.{ℤ, pos, _-ℤ_}
 use lib.ListN.{length, getD, set, length-set, getD-replicate}
@@ -14,22 +14,23 @@ use lib.Seq.{getD-set-same, getD-set-other}
 use Rattle.rules.specs.Rules.{turned, Ruling, fine, refused, judge}
 use Rattle.header.specs.Entries.{entriesOf}
 use Rattle.accept.specs.Checks.{checks}
-use Rattle.accept.specs.Answers.{factsOf, calibrationIn}
+use Rattle.accept.specs.Answers.{calibrationIn}
 use Rattle.reading.specs.declared.Reading.{Reading}
 use Rattle.reading.specs.declared.Reading.the-variants.{Radiance, ErrorPixel, Outside, OverRange, Uncalibrated}
 use Rattle.reading.specs.declared.Calibration.{Calibration}
 use Rattle.reading.specs.Counts.{readingOf}
+use Rattle.frame.specs.Counts.{countsOf}
 use Rattle.totals.specs.declared.Totals.{Totals}
 use Rattle.totals.specs.Kinds.{isRadiance, isError, isOutside, isOver, isUncalibrated, number, countBy}
 use Rattle.totals.specs.Files.{calOf, totalsOf, sumOf, pixelsOf}
-use Rattle.totals.proofs.Sizes.{sized, totals-most, five-of}
+use Rattle.totals.proofs.Sizes.{sized, totals-most}
 use Rattle.night.specs.declared.Run.{Run}
 use Rattle.night.specs.Runs.{sumTo, emptyRun, heldBy, openRun, added, withTotals, runAfter, extraOf, extraAfter}
 use Rattle.night.proofs.Running.{small-at, opened}
-use Rattle.night.proofs.Growing.{open-is, small-all, run-first, file-alone, own-other, kept-run, fine-run, one-more, fine-extra, no-extra}
 use Rattle.promises.proofs.Refusals.{refused-in, of-number}
+use Rattle.promises.proofs.Growing.{open-is, small-all, run-first, file-alone, own-other, kept-run, fine-run, one-more, fine-extra, no-extra}
 use Rattle.promises.proofs.Demand1.{in-checks}
-use Rattle.promises.specs.Night.{kindOf, total, readAs, found, sum, listed, placesTo, held, Full, files, kind, refusal, Grown, Counted, Adds, Call, answerOf, answered, overAccepted, area, Night}
+use Rattle.promises.specs.Night.{kindOf, total, readAs, found, sum, listed, placesTo, held, Full, files, kind, refusal, Grown, Adds, Call, answerOf, answered, overAccepted, area, Night}
 
 -- ---- the words
 
@@ -409,6 +410,19 @@ grown-held : (r : Run) (t : Totals) → held (withTotals r t) ≡ held r + 1
 unfolding held withTotals
 grown-held r t = omega arith
 
+-- the five kinds share out every reading
+shared : (r : Reading) → cond (eqb (kindOf r) 0) 1 0 + cond (eqb (kindOf r) 1) 1 0 + cond (eqb (kindOf r) 2) 1 0 + cond (eqb (kindOf r) 3) 1 0 + cond (eqb (kindOf r) 4) 1 0 ≡ 1
+shared (Radiance x) = omega arith
+shared ErrorPixel = omega arith
+shared Outside = omega arith
+shared OverRange = omega arith
+shared Uncalibrated = omega arith
+
+five : (cal : Calibration) (cs : List ℕ) → readAs 0 cal cs + readAs 1 cal cs + readAs 2 cal cs + readAs 3 cal cs + readAs 4 cal cs ≡ length cs
+unfolding readAs
+five cal [] = refl
+five cal (c ∷ cs) = omega (arith, five cal cs, shared (readingOf cal c))
+
 abbrev fiveOf : Totals → ℕ
 fiveOf t = t .radiance + t .error + t .outside + t .over + t .uncalibrated
 
@@ -416,9 +430,14 @@ grown-five : (r : Run) (t : Totals) → fiveOf (withTotals r t .totals) ≡ five
 unfolding withTotals
 grown-five r t = omega arith
 
+found-five : (f : List ℕ) → found 0 f + found 1 f + found 2 f + found 3 f + found 4 f ≡ length (countsOf f)
+unfolding found
+found-five f = five _ (countsOf f)
+
 area-five : (f : List ℕ) → judge fine (checks f) ≡ fine → fiveOf (totalsOf f) ≡ area f
 unfolding area
-area-five f e = five-of f (sized f e)
+area-five f e =
+    (λ i. total-found f 0 i + total-found f 1 i + total-found f 2 i + total-found f 3 i + total-found f 4 i) ∙ found-five f ∙ sized f e .number
 
 kept-taken : {cs : List Call} {r : Run} → Kept cs r → (c : Call) → c .answer ≡ 0 → openRun r ≡ true → judge fine (checks (c .file)) ≡ fine → Kept (c ∷ cs) (withTotals r (totalsOf (c .file)))
 unfolding withTotals

@@ -16,6 +16,7 @@ pub mod Demand3
 pub mod FromC
 pub mod Quality
 pub mod Reeled
+pub mod Growing
 pub mod Adding
 pub mod Night
 pub mod Reels

@@ -3,10 +3,8 @@
 -- Assumes nothing.
 use Prim.Native.Nat.{ℕ, _≤_, _<_}
 use mathlib.Core.Path.{_≡_, refl, sym, ap, subst, _∙_}
-use mathlib.Core.List.{List, _∷_}
-use native.Mathlib.Omega.{arith}
-use lib.IntN.{ℤ, pos}
-use lib.ListN.{length}
+use mathlib.Core.List.{List}
+use lib.IntN.{pos}
 use denote.Ref.{now}
 use Rattle.rules.specs.Rules.{turned, Ruling, fine, refused, paper}
 use Rattle.accept.specs.Answers.{factsOf}
@@ -14,7 +12,7 @@ use Rattle.reading.specs.declared.Reading.{Reading}
 use Rattle.reading.specs.declared.Reading.the-variants.{Radiance, ErrorPixel, Outside, OverRange, Uncalibrated}
 use Rattle.reading.specs.Counts.{calibrationOf, readingOf}
 use Rattle.night.specs.declared.Run.{Run}
-use Rattle.night.specs.Runs.{emptyRun, added, runAfter, extraAfter}
+use Rattle.night.specs.Runs.{emptyRun, added, runAfter}
 use Rattle.night.proofs.add.Reads as adding
 use Rattle.plugin.specs.declared.HsdFile.{HsdFile}
 use Rattle.plugin.specs.declared.HsdReading.{HsdReading}
@@ -23,9 +21,8 @@ use Rattle.plugin.proofs.hsd_accept.Reads as hsd-accept
 use Rattle.plugin.proofs.hsd_reading.Reads as hsd-reading
 use Rattle.plugin_night.specs.declared.HsdRun.{HsdRun}
 use Rattle.plugin_night.specs.declared.HsdNight.{HsdNight}
-use Rattle.plugin_night.specs.Night.{runIn, shownNight}
 use Rattle.plugin_night.proofs.hsd_night_add.Reads as hsd-adding
-use Rattle.promises.specs.Night.{kindOf, held, Adds, Call, answerOf, Ran, zeros, RanC, Night}
+use Rattle.promises.specs.Night.{kindOf, held, Adds, Call, answerOf, Ran, runOf, ShownAs, zeros, RanC, Night}
 use Rattle.promises.specs.Night as words
 use Rattle.promises.proofs.Told.{free, shown-accepted, shown-at}
 use Rattle.promises.proofs.Adding as laws
@@ -36,19 +33,20 @@ use Rattle.promises.proofs.Adding.{Steps, none, step, nightly}
 pub adds : (κ : _) (a : _) (r : _) (t : _) → adding.Post κ a r t → Adds (λ v. paper (r .verdict) ≡ v) (a .0) (now (a .1 .0)) (r .extra) (r .run)
 adds κ a r t p = laws.adds (λ v. paper (r .verdict) ≡ v) (a .0) (now (a .1 .0)) refl (p .0) (p .1 .0) (p .1 .1)
 
--- C is shown a ruling
-abbrev Shown : HsdNight → Ruling → Type 0
-Shown r v = (r .refusal ≡ shownRuling v .refusal) × (r .block ≡ shownRuling v .block) × (r .offset ≡ shownRuling v .offset)
+shown-as : (r : HsdNight) (v : Ruling) → r .refusal ≡ shownRuling v .refusal → r .block ≡ shownRuling v .block → r .offset ≡ shownRuling v .offset → ShownAs r v
+unfolding shownRuling
+shown-as r fine e f g = (e, f, g)
+shown-as r (refused (turned n b p)) e f g = (e, f, g)
 
-pub adds-c : (κ : _) (a : _) (r : _) (t : _) → hsd-adding.Post κ a r t → Adds (Shown r) (runIn (a .0)) (now (a .1 .0)) (r .extra) (runIn (r .run))
+pub adds-c : (κ : _) (a : _) (r : _) (t : _) → hsd-adding.Post κ a r t → Adds (ShownAs r) (runOf (a .0)) (now (a .1 .0)) (r .extra) (runOf (r .run))
 adds-c κ a r t p =
-    let run = runIn (a .0) in
+    let run = runOf (a .0) in
     let f = now (a .1 .0) in
-    laws.adds (Shown r) run f {q = added run f}
-    (ap (λ (x : HsdNight). x .refusal) p, ap (λ (x : HsdNight). x .block) p, ap (λ (x : HsdNight). x .offset) p)
+    laws.adds (ShownAs r) run f {q = added run f}
+    (shown-as r (added run f) (ap (λ (x : HsdNight). x .refusal) p) (ap (λ (x : HsdNight). x .block) p) (ap (λ (x : HsdNight). x .offset) p))
     refl
     (ap (λ (x : HsdNight). x .extra) p)
-    (ap (λ (x : HsdNight). runIn (x .run)) p)
+    (ap (λ (x : HsdNight). runOf (x .run)) p)
 
 -- ---- runs of calls
 
@@ -65,19 +63,19 @@ unfolding shownRuling
 shown-answer fine = refl
 shown-answer (refused (turned n b p)) = refl
 
-from-zeros : runIn zeros ≡ emptyRun
+from-zeros : runOf zeros ≡ emptyRun
 unfolding emptyRun
 from-zeros = refl
 
-steps-c : {cs : List Call} {run : HsdRun} → RanC cs run → Steps cs (runIn run)
+steps-c : {cs : List Call} {run : HsdRun} → RanC cs run → Steps cs (runOf run)
 steps-c words.begun = none from-zeros
 steps-c (words.more {newest = newest} ran κ a r t p e) =
     let f = now (a .1 .0) in
-    step (steps-c ran) _ (runIn (r .run))
-    (ap (λ (x : HsdNight). x .refusal) p ∙ shown-answer (added (runIn (a .0)) f) ∙ ap (λ (x : HsdRun). answerOf (added (runIn x) f)) e)
-    (ap (λ (x : HsdNight). runIn (x .run)) p ∙ ap (λ (x : HsdRun). runAfter (runIn x) f) e)
+    step (steps-c ran) _ (runOf (r .run))
+    (ap (λ (x : HsdNight). x .refusal) p ∙ shown-answer (added (runOf (a .0)) f) ∙ ap (λ (x : HsdRun). answerOf (added (runOf x) f)) e)
+    (ap (λ (x : HsdNight). runOf (x .run)) p ∙ ap (λ (x : HsdRun). runAfter (runOf x) f) e)
 
-pub night-c : {cs : List Call} {run : HsdRun} → RanC cs run → Night cs (runIn run)
+pub night-c : {cs : List Call} {run : HsdRun} → RanC cs run → Night cs (runOf run)
 night-c ran = nightly (steps-c ran)
 
 -- below 4,096 files no call is told RUN; from there on every call is, and the run is kept

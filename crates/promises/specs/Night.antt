@@ -21,6 +21,7 @@ use Rattle.night.specs.declared.Run.{Run}
 use Rattle.night.proofs.empty.Reads as beginning
 use Rattle.night.proofs.add.Reads as adding
 use Rattle.plugin_night.specs.declared.HsdRun.{HsdRun}
+use Rattle.plugin_night.specs.declared.HsdNight.{HsdNight}
 use Rattle.plugin_night.proofs.hsd_night_add.Reads as hsd-adding
 
 -- ---- the five kinds of reading, by C's numbers
@@ -104,7 +105,19 @@ pub data Ran : List Call → Run → Type 0 where
   more : {cs : List Call} {newest : Run} → Ran cs newest → (κ : _) (a : _) (r : _) (t : _) → adding.Post κ a r t → a .0 ≡ newest
       → Ran (record { file = now (a .1 .0); answer = answerOf (paper (r .verdict)) } ∷ cs) (r .run)
 
--- the same from C, where a run begins as zeros
+-- From C: a run in C's struct, each number under its name, and an answer in C's numbers, where 0 is no refusal.
+abbrev pub runOf : HsdRun → Run
+runOf r = record {
+  totals = record { radiance = r .radiance; error = r .error; outside = r .outside; over = r .over; uncalibrated = r .uncalibrated };
+  accepted = r .accepted;
+  refused = r .refused;
+}
+
+abbrev pub ShownAs : HsdNight → Ruling → Type 0
+ShownAs r fine = (r .refusal ≡ 0) × (r .block ≡ 0) × (r .offset ≡ 0)
+ShownAs r (refused (turned n b p)) = (r .refusal ≡ n) × (r .block ≡ b) × (r .offset ≡ p)
+
+-- the same run of calls, which begins as zeros
 abbrev pub zeros : HsdRun
 zeros = record { radiance = 0; error = 0; outside = 0; over = 0; uncalibrated = 0; accepted = 0; refused = replicate 64 0 }
 

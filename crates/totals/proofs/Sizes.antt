@@ -1,9 +1,9 @@
 -- How many counts an accepted file has, and what its totals come to.
 -- Assumes nothing.
-use mathlib.Core.Path.{_≡_, refl, _∙_}
-use mathlib.Core.Bool.{Bool, cond, and-eq-true-iff}
-use mathlib.Core.List.{List, [], _∷_}
-use Prim.Native.Nat.{ℕ, _+_, _*_, _-_, _≤_}
+use mathlib.Core.Path.{_≡_, _∙_}
+use mathlib.Core.Bool.{Bool, and-eq-true-iff}
+use mathlib.Core.List.{List}
+use Prim.Native.Nat.{ℕ, _*_, _-_, _≤_}
 use native.Mathlib.Nat.{mul-le-mul, mul-comm}
 use native.Mathlib.Omega.{arith}
 use borrow.Author.Tests.{leb-true}
@@ -17,8 +17,6 @@ use Rattle.accept.specs.Answers.{factsOf}
 use Rattle.accept.proofs.Known.{known}
 use Rattle.accept.proofs.Tables.{accepted}
 use Rattle.reading.specs.declared.Reading.{Reading}
-use Rattle.reading.specs.declared.Reading.the-variants.{Radiance, ErrorPixel, Outside, OverRange, Uncalibrated}
-use Rattle.reading.specs.declared.Calibration.{Calibration}
 use Rattle.reading.specs.Counts.{readingOf}
 use Rattle.frame.specs.Counts.{counts, countsOf}
 use Rattle.frame.proofs.Copying.{counts-length}
@@ -61,20 +59,3 @@ totals-most f s = (most isRadiance, most isError, most isOutside, most isOver, m
 pub totals-are : (f : List ℕ) (t : Totals) → Totalled (calOf f) (countsOf f) (t .radiance) (t .error) (t .outside) (t .over) (t .uncalibrated) → t ≡ totalsOf f
 unfolding totalsOf
 totals-are f t k = λ i. record { radiance = k .is-radiance i; error = k .is-error i; outside = k .is-outside i; over = k .is-over i; uncalibrated = k .is-uncalibrated i }
-
--- the five kinds share out every reading
-shared : (r : Reading) → cond (isRadiance r) 1 0 + cond (isError r) 1 0 + cond (isOutside r) 1 0 + cond (isOver r) 1 0 + cond (isUncalibrated r) 1 0 ≡ 1
-shared (Radiance x) = omega arith
-shared ErrorPixel = omega arith
-shared Outside = omega arith
-shared OverRange = omega arith
-shared Uncalibrated = omega arith
-
-five : (cal : Calibration) (cs : List ℕ) → countBy isRadiance cal cs + countBy isError cal cs + countBy isOutside cal cs + countBy isOver cal cs + countBy isUncalibrated cal cs ≡ length cs
-unfolding number
-five cal [] = refl
-five cal (c ∷ cs) = omega (arith, five cal cs, shared (readingOf cal c))
-
-pub five-of : (f : List ℕ) → Sized f → totalsOf f .radiance + totalsOf f .error + totalsOf f .outside + totalsOf f .over + totalsOf f .uncalibrated ≡ factsOf f .columns * factsOf f .lines
-unfolding totalsOf
-five-of f s = five (calOf f) (countsOf f) ∙ s .number

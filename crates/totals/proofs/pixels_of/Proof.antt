@@ -2,7 +2,7 @@ use Prim.Native.Nat.{_*_, _-_, _≤_, _<_}
 use mathlib.Core.Path.{_≡_}
 use denote.Ref.{now}
 use Rattle.header.specs.Entries.{column}
-use Rattle.totals.specs.Files.{sumOf, pixelsOf}
+use Rattle.totals.specs.Files.{sumOf}
 use Rattle.totals.proofs.Listed.{column-none, column-more, pixels-are}
 use native.Mathlib.Omega.{arith}
 use borrow.Author.Needs.{needs}

@@ -1,4 +1,5 @@
--- What a call of `add` comes to: a run that is full keeps all and says RUN; else the file's own checks answer, and the run grows by them.
+-- Laws for Night: what a call of `add` comes to by its definitions. A run that is full keeps all and says RUN; else the file's own checks answer, and
+-- the run grows by them.
 -- Assumes nothing.
 use mathlib.Core.Path.{_≡_, refl, sym, ap, _∙_}
 use mathlib.Core.Bool.{Bool, true, false, not, _&&_, false≢true, and-eq-true-iff}
