@@ -247,7 +247,7 @@ HsdAnswer hsd_reel_seal(const uint8_t *files, size_t files_length, const uint32_
 
 /* A run of up to 4,096 files: how many counts of the accepted ones read as each kind, and how many files were accepted and
  * refused. A run begins as zeros, HsdRun run = {0}, and the run that a call hands back goes into the next one. Whatever
- * numbers stand in it, it gets an answer. */
+ * numbers stand in it, it gets an answer. There is padding behind the last number: compare runs number by number. */
 typedef struct HsdRun {
     uint64_t radiance; /* how many counts are HSD_RADIANCE, and so on */
     uint64_t error;
@@ -264,12 +264,13 @@ typedef struct HsdNight {
     uint32_t offset; /* of a file's refusal, as in HsdFile; else 0 */
     int64_t extra;   /* how many counts of an accepted file are HSD_ERROR_PIXEL, less the sum that its block 10 lists: as low
                         as -4,294,836,225 */
-    HsdRun run;      /* the run with this file in it */
+    HsdRun run;      /* the newest: with this file in it, or as it was where the answer is HSD_RUN */
 } HsdNight;
 
 /* Adds a file to a run. Accepted, each kind's total grows by how many of its counts hsd_reading calls so, and accepted by
  * one; refused, refused[refusal] grows by one, and nothing else. HSD_RUN, with the run as it was: accepted and all of refused
- * add up to 4,096 or more, a kind's total is above 4,096 x 484,000,000, or one of refused is above 4,096. */
+ * add up to 4,096 or more, a kind's total is above 4,096 x 484,000,000, or one of refused is above 4,096. (A total that
+ * begins within its limit may pass it with a file: then the next call is HSD_RUN.) */
 HsdNight hsd_night_add(HsdRun run, const uint8_t *file, size_t file_length);
 
 #ifdef __cplusplus
