@@ -21,7 +21,8 @@ use Rattle.reading.specs.declared.Calibration.{Calibration}
 use Rattle.reading.specs.Counts.{readingOf}
 use Rattle.frame.specs.Counts.{countsOf}
 use Rattle.totals.specs.declared.Totals.{Totals}
-use Rattle.totals.specs.Kinds.{isRadiance, isError, isOutside, isOver, isUncalibrated, number, countBy}
+use Rattle.totals.specs.Kinds as kinds
+use Rattle.totals.specs.Kinds.{number, countBy}
 use Rattle.totals.specs.Files.{calOf, totalsOf, sumOf, pixelsOf}
 use Rattle.totals.proofs.Sizes.{sized, totals-most}
 use Rattle.night.specs.declared.Run.{Run}
@@ -34,46 +35,18 @@ use Rattle.promises.specs.Night.{kindOf, total, readAs, found, sum, list
 
 -- ---- the words
 
--- a rule of the code that tells a kind counts what reads as it
-as-kind : (rule : Reading → Bool) (k : ℕ) → ((r : Reading) → eqb (kindOf r) k ≡ rule r) → (cal : Calibration) (cs : List ℕ) → countBy rule cal cs ≡ readAs k cal cs
+kind-is : (r : Reading) → kinds.kindOf r ≡ kindOf r
+kind-is (Radiance x) = refl
+kind-is ErrorPixel = refl
+kind-is Outside = refl
+kind-is OverRange = refl
+kind-is Uncalibrated = refl
+
+-- what the code counts by a kind's rule reads as that kind
+as-kind : (k : ℕ) (cal : Calibration) (cs : List ℕ) → countBy (λ (r : Reading). eqb (kinds.kindOf r) k) cal cs ≡ readAs k cal cs
 unfolding number readAs
-as-kind rule k e cal [] = refl
-as-kind rule k e cal (c ∷ cs) = rw (e (readingOf cal c), as-kind rule k e cal cs)
-
-radiance-is : (r : Reading) → eqb (kindOf r) 0 ≡ isRadiance r
-radiance-is (Radiance x) = refl
-radiance-is ErrorPixel = refl
-radiance-is Outside = refl
-radiance-is OverRange = refl
-radiance-is Uncalibrated = refl
-
-error-is : (r : Reading) → eqb (kindOf r) 1 ≡ isError r
-error-is (Radiance x) = refl
-error-is ErrorPixel = refl
-error-is Outside = refl
-error-is OverRange = refl
-error-is Uncalibrated = refl
-
-outside-is : (r : Reading) → eqb (kindOf r) 2 ≡ isOutside r
-outside-is (Radiance x) = refl
-outside-is ErrorPixel = refl
-outside-is Outside = refl
-outside-is OverRange = refl
-outside-is Uncalibrated = refl
-
-over-is : (r : Reading) → eqb (kindOf r) 3 ≡ isOver r
-over-is (Radiance x) = refl
-over-is ErrorPixel = refl
-over-is Outside = refl
-over-is OverRange = refl
-over-is Uncalibrated = refl
-
-uncalibrated-is : (r : Reading) → eqb (kindOf r) 4 ≡ isUncalibrated r
-uncalibrated-is (Radiance x) = refl
-uncalibrated-is ErrorPixel = refl
-uncalibrated-is Outside = refl
-uncalibrated-is OverRange = refl
-uncalibrated-is Uncalibrated = refl
+as-kind k cal [] = refl
+as-kind k cal (c ∷ cs) = rw (kind-is (readingOf cal c), as-kind k cal cs)
 
 few-kinds : (r : Reading) → kindOf r < 5
 few-kinds (Radiance x) = omega arith
@@ -90,11 +63,11 @@ no-sixth k cal (c ∷ cs) h = rw (ne-eqb (kindOf (readingOf cal c)) k (λ e. ome
 -- each total is by its own kind
 total-found : (f : List ℕ) (k : ℕ) → total (totalsOf f) k ≡ found k f
 unfolding totalsOf calOf calibrationIn found
-total-found f zero = as-kind isRadiance 0 radiance-is _ _
-total-found f (suc zero) = as-kind isError 1 error-is _ _
-total-found f (suc (suc zero)) = as-kind isOutside 2 outside-is _ _
-total-found f (suc (suc (suc zero))) = as-kind isOver 3 over-is _ _
-total-found f (suc (suc (suc (suc zero)))) = as-kind isUncalibrated 4 uncalibrated-is _ _
+total-found f zero = as-kind 0 _ _
+total-found f (suc zero) = as-kind 1 _ _
+total-found f (suc (suc zero)) = as-kind 2 _ _
+total-found f (suc (suc (suc zero))) = as-kind 3 _ _
+total-found f (suc (suc (suc (suc zero)))) = as-kind 4 _ _
 total-found f (suc (suc (suc (suc (suc k))))) = sym (no-sixth (suc (suc (suc (suc (suc k))))) _ _ (omega arith))
 
 sum-is : (xs : List ℕ) → sumOf xs ≡ sum xs

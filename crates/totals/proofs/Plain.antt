@@ -159,10 +159,6 @@ all-five cal limit o s e u v b l h f t =
       is-uncalibrated = sym (fine-none cal limit l f (counts o s) m);
     }
 
-pub none-one : (b : Bool) (n : ℕ) → n ≡ cond b 1 0 → n ≡ 0 → b ≡ false
-none-one true n e z = absurd (omega arith)
-none-one false n e z = refl
-
 -- ---- the loops
 
 -- nothing is counted yet

@@ -6,7 +6,7 @@ ghost use mathlib.Core.Bool.{true, cond};
 ghost use Prim.Native.Nat.{_*_, _≤_, min};
 ghost use lib.ListN.{length};
 ghost use Rattle.frame.specs.Counts.{counts};
-ghost use Rattle.totals.specs.Kinds.{isRadiance, isError, isOutside, isOver, isUncalibrated};
+ghost use Rattle.totals.specs.Kinds.{kindOf};
 ghost use Rattle.totals.specs.Counting.{Totalled, Limit, Fine, Sorted};
 ghost use Rattle.totals.specs.Files.{totalsOf, pixelsOf};
 
@@ -124,63 +124,16 @@ fn sort_all(src: &[u8], order: u8, limit: u16) -> Many
 
 // ---- with a reading for each count
 
-fn radiance_one(r: Reading) -> u64
-    ensures { λ n. ⌜ (n ≡ cond (isRadiance r) 1 0) × (n ≤ 1) ⌝ }
-{
-    match r {
-        Reading::Radiance(_) => 1,
-        Reading::ErrorPixel => 0,
-        Reading::Outside => 0,
-        Reading::OverRange => 0,
-        Reading::Uncalibrated => 0,
-    }
-}
-
-fn error_one(r: Reading) -> u64
-    ensures { λ n. ⌜ (n ≡ cond (isError r) 1 0) × (n ≤ 1) ⌝ }
+// A reading's kind, by C's numbers.
+fn kind_of(r: Reading) -> u8
+    ensures { λ k. ⌜ k ≡ kindOf r ⌝ }
 {
     match r {
         Reading::Radiance(_) => 0,
         Reading::ErrorPixel => 1,
-        Reading::Outside => 0,
-        Reading::OverRange => 0,
-        Reading::Uncalibrated => 0,
-    }
-}
-
-fn outside_one(r: Reading) -> u64
-    ensures { λ n. ⌜ (n ≡ cond (isOutside r) 1 0) × (n ≤ 1) ⌝ }
-{
-    match r {
-        Reading::Radiance(_) => 0,
-        Reading::ErrorPixel => 0,
-        Reading::Outside => 1,
-        Reading::OverRange => 0,
-        Reading::Uncalibrated => 0,
-    }
-}
-
-fn over_one(r: Reading) -> u64
-    ensures { λ n. ⌜ (n ≡ cond (isOver r) 1 0) × (n ≤ 1) ⌝ }
-{
-    match r {
-        Reading::Radiance(_) => 0,
-        Reading::ErrorPixel => 0,
-        Reading::Outside => 0,
-        Reading::OverRange => 1,
-        Reading::Uncalibrated => 0,
-    }
-}
-
-fn uncalibrated_one(r: Reading) -> u64
-    ensures { λ n. ⌜ (n ≡ cond (isUncalibrated r) 1 0) × (n ≤ 1) ⌝ }
-{
-    match r {
-        Reading::Radiance(_) => 0,
-        Reading::ErrorPixel => 0,
-        Reading::Outside => 0,
-        Reading::OverRange => 0,
-        Reading::Uncalibrated => 1,
+        Reading::Outside => 2,
+        Reading::OverRange => 3,
+        Reading::Uncalibrated => 4,
     }
 }
 
@@ -191,7 +144,7 @@ fn all_fine(cal: Calibration) -> bool
     let limit = limit_of(cal.bits);
     let mut k: u16 = 0;
     while k < limit {
-        if uncalibrated_one(reading::read(cal, k)) != 0 {
+        if kind_of(reading::read(cal, k)) == 4 {
             return false;
         }
         k += 1;
@@ -212,11 +165,12 @@ fn read_all(cal: Calibration, order: u8, src: &[u8]) -> Totals
     let mut uncalibrated: u64 = 0;
     while i < n {
         let r = reading::read(cal, frame::count_of(order, src[i * 2], src[i * 2 + 1]));
-        radiance += radiance_one(r);
-        error += error_one(r);
-        outside += outside_one(r);
-        over += over_one(r);
-        uncalibrated += uncalibrated_one(r);
+        let kind = kind_of(r);
+        radiance += one(kind == 0) as u64;
+        error += one(kind == 1) as u64;
+        outside += one(kind == 2) as u64;
+        over += one(kind == 3) as u64;
+        uncalibrated += one(kind == 4) as u64;
         i += 1;
     }
     Totals {

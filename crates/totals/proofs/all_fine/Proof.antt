@@ -1,10 +1,11 @@
-use mathlib.Core.Path.{_≡_, sym, ap, _∙_}
+use mathlib.Core.Path.{_≡_}
 use mathlib.Core.Bool.{false, false≢true}
 use Prim.Native.Nat.{ℕ, _-_, _≤_, _<_}
 use borrow.Author.Count.{below-more}
+use borrow.Author.Tests.{ne-eqb}
 use Rattle.reading.specs.Counts.{readingOf}
 use Rattle.totals.specs.Kinds.{isUncalibrated}
-use Rattle.totals.proofs.Plain.{fine-done, none-one}
+use Rattle.totals.proofs.Plain.{fine-done}
 use native.Mathlib.Omega.{arith}
 use borrow.Author.Needs.{needs}
 use Rattle.totals.proofs.all_fine.Statement.{statement}
@@ -23,7 +24,7 @@ returns : tie.Need-returns Inv-loop μ-loop
 returns c = λ e. absurd (false≢true e)
 
 loop-again : tie.Need-loop-again Inv-loop μ-loop
-loop-again c = let l = c .before .before .before .before in let cal = l .before .before .args .cal in (search needs, below-more _ _ (l .loop .inv .1) (ap isUncalibrated (sym (c .before .before .read .ensures)) ∙ none-one _ _ (c .before .uncalibrated-one .ensures .0) (c .if1 .left)))
+loop-again c = let l = c .before .before .before .before in let cal = l .before .before .args .cal in (search needs, below-more _ _ (l .loop .inv .1) (ne-eqb _ 4 (rw (c .before .kind-of .ensures, c .before .before .read .ensures) at (c .if1 .left))))
 
 returns-2 : tie.Need-returns-2 Inv-loop μ-loop
 returns-2 c = λ _. let l = c .before in fine-done (l .before .before .args .cal) _ (l .loop .k) (l .before .limit-of .ensures) (c .loop-test .left) (l .loop .inv .1)
