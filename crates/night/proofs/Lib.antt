@@ -1,4 +1,3 @@
 -- The laws that the proofs cite.
-pub mod Signed
 pub mod Running
 pub mod Adding

@@ -8,7 +8,7 @@ use Prim.Native.Nat.{ℕ, zero, suc, _+_, _-_, _<_, _≤_}
 use native.Mathlib.Nat.{eq-or-lt-of-le, le-of-suc-le-suc}
 use native.Mathlib.Numerals.{add-one}
 use native.Mathlib.Omega.{arith}
-use borrow.Author.Tests.{lt-ltb, le-ltb, ltb-false, leb-false}
+use borrow.Author.Tests.{lt-ltb, le-ltb, ltb-false, leb-false, not-true}
 use lib.Dec.{ltb, leb}
 use lib.ListN.{getD}
 use Rattle.rules.specs.Rules.{turned, Ruling, fine, refused, checked, judge, tables, numberOf, paper}
@@ -58,10 +58,6 @@ small-at xs (suc n) at h e = go (ltb 4096 (getD xs n 0)) refl e (λ l s. small-a
 
 -- ---- a run that takes one more
 
-not-so : (b : Bool) → not b ≡ true → b ≡ false
-not-so true e = absurd (false≢true e)
-not-so false e = refl
-
 pub record Open (r : R.Run) : Type 0 where
   pub held : heldBy r < 4096
   pub radiance : r .totals .radiance ≤ 1982464000000
@@ -81,12 +77,12 @@ opened r e =
     let e2 = and-eq-true-iff _ (within (r .totals .error)) .0 (e3 .0) in
     let e1 = and-eq-true-iff (not (leb 4096 (heldBy r))) (within (r .totals .radiance)) .0 (e2 .0) in
     record {
-      held = leb-false 4096 (heldBy r) (not-so _ (e1 .0));
-      radiance = ltb-false _ _ (not-so _ (e1 .1));
-      error = ltb-false _ _ (not-so _ (e2 .1));
-      outside = ltb-false _ _ (not-so _ (e3 .1));
-      over = ltb-false _ _ (not-so _ (e4 .1));
-      uncalibrated = ltb-false _ _ (not-so _ (e5 .1));
+      held = leb-false 4096 (heldBy r) (not-true _ (e1 .0));
+      radiance = ltb-false _ _ (not-true _ (e1 .1));
+      error = ltb-false _ _ (not-true _ (e2 .1));
+      outside = ltb-false _ _ (not-true _ (e3 .1));
+      over = ltb-false _ _ (not-true _ (e4 .1));
+      uncalibrated = ltb-false _ _ (not-true _ (e5 .1));
       refused = e6 .1;
     }
 

@@ -142,7 +142,7 @@ fn counted(run: Run, t: Totals) -> Run
 
 // Found less listed.
 fn difference(a: u64, b: u64) -> i64
-    requires { ⌜ (a < 4294967296) × (b < 4294967296) ⌝ }
+    requires { ⌜ (a < 9223372036854775808) × (b < 9223372036854775808) ⌝ }
     ensures { λ r. ⌜ r ≡ pos a -ℤ pos b ⌝ }
 {
     (a as i64) - (b as i64)

@@ -5,6 +5,7 @@ use Prim.Native.Nat.{ℕ, _≤_, _<_}
 use mathlib.Core.Path.{_≡_, refl, sym, ap, subst, _∙_}
 use mathlib.Core.List.{List}
 use lib.IntN.{pos}
+use native.Mathlib.Omega.{arith}
 use denote.Ref.{now}
 use Rattle.rules.specs.Rules.{turned, Ruling, fine, refused, paper}
 use Rattle.accept.specs.Answers.{factsOf}
@@ -67,12 +68,17 @@ from-zeros : runOf zeros ≡ emptyRun
 unfolding emptyRun
 from-zeros = refl
 
+answer-c : (κ : _) (a : _) (r : _) (t : _) → hsd-adding.Post κ a r t → {run : HsdRun} → a .0 ≡ run → r .refusal ≡ answerOf (added (runOf run) (now (a .1 .0)))
+answer-c κ a r t p e =
+    let f = now (a .1 .0) in
+    ap (λ (x : HsdNight). x .refusal) p ∙ shown-answer (added (runOf (a .0)) f) ∙ ap (λ (x : HsdRun). answerOf (added (runOf x) f)) e
+
 steps-c : {cs : List Call} {run : HsdRun} → RanC cs run → Steps cs (runOf run)
 steps-c words.begun = none from-zeros
 steps-c (words.more {newest = newest} ran κ a r t p e) =
     let f = now (a .1 .0) in
     step (steps-c ran) _ (runOf (r .run))
-    (ap (λ (x : HsdNight). x .refusal) p ∙ shown-answer (added (runOf (a .0)) f) ∙ ap (λ (x : HsdRun). answerOf (added (runOf x) f)) e)
+    (answer-c κ a r t p e)
     (ap (λ (x : HsdNight). runOf (x .run)) p ∙ ap (λ (x : HsdRun). runAfter (runOf x) f) e)
 
 pub night-c : {cs : List Call} {run : HsdRun} → RanC cs run → Night cs (runOf run)
@@ -85,6 +91,19 @@ below ran h κ a r t p e b o z = laws.not-run (steps ran) h (now (a .1 .0)) b o 
 pub from-there : {cs : List Call} {run : Run} → Ran cs run → 4096 ≤ held run → (κ : _) (a : _) (r : _) (t : _) → adding.Post κ a r t → a .0 ≡ run
     → (paper (r .verdict) ≡ refused (turned 19 0 0)) × (r .extra ≡ pos 0) × (r .run ≡ run)
 from-there ran h κ a r t p e = let w = adds κ a r t p .full (subst words.Full (sym e) (words.files h)) in (w .0, w .1, w .2 ∙ e)
+
+told-run : (v : Ruling) → answerOf v ≡ 19 → ((b p : ℕ) → v ≡ refused (turned 19 b p) → ⊥) → ⊥
+told-run fine e h = omega arith
+told-run (refused (turned n b p)) e h = h b p (ap (λ (m : ℕ). refused (turned m b p)) e)
+
+pub below-c : {cs : List Call} {run : HsdRun} → RanC cs run → held (runOf run) < 4096 → (κ : _) (a : _) (r : _) (t : _) → hsd-adding.Post κ a r t → a .0 ≡ run → r .refusal ≡ 19 → ⊥
+below-c {run = run} ran h κ a r t p e z = let f = now (a .1 .0) in told-run (added (runOf run) f) (sym (answer-c κ a r t p e) ∙ z) (λ b o. laws.not-run (steps-c ran) h f b o)
+
+pub from-there-c : {cs : List Call} {run : HsdRun} → RanC cs run → 4096 ≤ held (runOf run) → (κ : _) (a : _) (r : _) (t : _) → hsd-adding.Post κ a r t → a .0 ≡ run
+    → ShownAs r (refused (turned 19 0 0)) × (r .extra ≡ pos 0) × (runOf (r .run) ≡ runOf run)
+from-there-c ran h κ a r t p e =
+    let w = adds-c κ a r t p .full (subst (λ (x : HsdRun). words.Full (runOf x)) (sym e) (words.files h)) in
+    (w .0, w .1, w .2 ∙ ap runOf e)
 
 -- ---- the kinds are what C is told of a count
 

@@ -9,7 +9,7 @@ use native.Mathlib.Numerals.{add-one}
 use native.Mathlib.Omega.{arith}
 use lib.Dec.{eqb}
 use lib.ListN.{length, take, drop, getD, length-drop}
-use lib.Seq.{length-take-le}
+use lib.Seq.{length-take-le, drop-nil, take-add}
 use Rattle.wire.specs.Wire.{num, low}
 use Rattle.frame.specs.Counts.{counts}
 use Rattle.totals.specs.Kinds.{number}
@@ -17,14 +17,6 @@ use Rattle.totals.specs.Kinds.{number}
 one-most : (b : Bool) → cond b 1 0 ≤ 1
 one-most true = omega arith
 one-most false = omega arith
-
-take-nil : (k : ℕ) → take {A = ℕ} k [] ≡ []
-take-nil zero = refl
-take-nil (suc k) = refl
-
-drop-nil : (k : ℕ) → drop {A = ℕ} k [] ≡ []
-drop-nil zero = refl
-drop-nil (suc k) = refl
 
 module _ (p : ℕ → Bool) where
   pub number-none : (xs : List ℕ) → number p (take 0 xs) ≡ 0
@@ -47,23 +39,14 @@ module _ (p : ℕ → Bool) where
   number-most (x ∷ xs) = omega (arith, one-most (p x), number-most xs)
 
   -- over lists one after the other
-  pub number-append : (xs ys : List ℕ) → number p (xs ++ ys) ≡ number p xs + number p ys
+  number-append : (xs ys : List ℕ) → number p (xs ++ ys) ≡ number p xs + number p ys
   unfolding number
   number-append [] ys = omega arith
   number-append (x ∷ xs) ys = let e = number-append xs ys in omega arith
 
   -- a piece more
   pub number-piece : (i m : ℕ) (xs : List ℕ) → number p (take (i + m) xs) ≡ number p (take i xs) + number p (take m (drop i xs))
-  unfolding number
-  number-piece zero m xs = rw (zero-plus m) (omega arith)
-    where
-      zero-plus : (m : ℕ) → zero + m ≡ m
-      zero-plus m = omega arith
-  number-piece (suc i) m [] = rw (take-nil (suc i + m), take-nil m) (omega arith)
-  number-piece (suc i) m (x ∷ xs) =
-      let e : suc i + m ≡ suc (i + m) = omega arith in
-      let q = number-piece i m xs in
-      rw e (omega arith)
+  number-piece i m xs = ap (number p) (take-add i m xs) ∙ number-append (take i xs) (take m (drop i xs))
 
 -- every number is one of 16 bits
 abbrev pub Small : List ℕ → Type 0

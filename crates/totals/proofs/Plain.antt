@@ -1,7 +1,7 @@
 -- Laws for counting without a float for each count.
 -- Assumes nothing.
 use mathlib.Core.Path.{_≡_, refl, sym, _∙_}
-use mathlib.Core.Bool.{Bool, true, false, not, cond, _&&_, and-false}
+use mathlib.Core.Bool.{Bool, true, false, not, cond, _&&_, and-false, false≢true}
 use mathlib.Core.List.{List, [], _∷_}
 use Prim.Native.Nat.{ℕ, _+_, _-_, _^_, _<_, _≤_}
 use native.Mathlib.Omega.{arith}
@@ -51,24 +51,15 @@ rest-shape : (a b c : Bool) (v : Float) → isUncalibrated (shape a b c v) ≡ f
 rest-shape true b c v e = refl
 rest-shape false true c v e = refl
 rest-shape false false true v e = refl
-rest-shape false false false nan e = absurd (true-false e)
-  where
-    true-false : true ≡ false → ⊥
-    true-false q = let z : _≡_ {A = ℕ} 0 1 = cc in omega arith
-rest-shape false false false (inf s) e = absurd (true-false e)
-  where
-    true-false : true ≡ false → ⊥
-    true-false q = let z : _≡_ {A = ℕ} 0 1 = cc in omega arith
+rest-shape false false false nan e = absurd (false≢true (sym e))
+rest-shape false false false (inf s) e = absurd (false≢true (sym e))
 rest-shape false false false (fin s m x) e = refl
 
 special-fine : (a b c : Bool) (v : Float) → (not a && not b && not c) ≡ false → isUncalibrated (shape a b c v) ≡ false
 special-fine true b c v e = refl
 special-fine false true c v e = refl
 special-fine false false true v e = refl
-special-fine false false false v e = absurd (true-false e)
-  where
-    true-false : true ≡ false → ⊥
-    true-false q = let z : _≡_ {A = ℕ} 0 1 = cc in omega arith
+special-fine false false false v e = absurd (false≢true (sym e))
 
 under : (x : ℕ) → x < 65536 → (x ≡ 65535 → ⊥) → (x ≡ 65534 → ⊥) → x < 65534
 under x h i j = omega arith

@@ -3,9 +3,9 @@ use Prim.Native.Nat.{_≤_}
 use denote.Ref.{now}
 use mir.Facts.{toZ-ofZ}
 use Rattle.rules.specs.Rules.{paper, fine, after}
+use Rattle.calendar.proofs.Signed.{diff-fits}
 use Rattle.totals.proofs.Sizes.{Sized, sized, totals-most}
 use Rattle.night.specs.Runs.{added, ruledRun, runAfter, extraAfter}
-use Rattle.night.proofs.Signed.{diff-fits}
 use Rattle.night.proofs.Running.{number-small, open-of, away, taken}
 use Rattle.night.proofs.Adding.{extra-is}
 use native.Mathlib.Omega.{arith}
@@ -54,7 +54,7 @@ returns-2 c =
     let e = said told in
     let f = now (told .before .before .before .before .args .file) in
     let z = t .totals-of .ensures in
-    let fits = diff-fits (t .totals-of .result .error) (p .pixels-of .result) (omega (arith, most t .1)) (search needs) in (
+    let fits = diff-fits {a = t .totals-of .result .error} {b = p .pixels-of .result} (omega (arith, most t .1)) (search needs) in (
       sym e,
       (
         rw e (toZ-ofZ (rw (d .difference .ensures) fits) ∙ extra-is f (t .totals-of .result) (p .pixels-of .result) (d .difference .ensures) z (p .pixels-of .ensures)),
