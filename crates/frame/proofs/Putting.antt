@@ -1,7 +1,7 @@
 -- Laws for `put` and `offer`: a lent part that comes back, and what it means that a file is placed.
 -- Assumes nothing.
 use mathlib.Core.Path.{_≡_, sym, ap, _∙_}
-use mathlib.Core.Bool.{Bool, true, and-eq-true-iff}
+use mathlib.Core.Bool.{Bool, true}
 use mathlib.Core.List.{List, _++_, append-assoc}
 use Prim.Native.Nat.{ℕ, _+_, _*_, _-_, _≤_}
 use native.Mathlib.Nat.{mul-comm}
@@ -17,8 +17,10 @@ use Rattle.accept.specs.Answers.{factsOf}
 use Rattle.accept.specs.Checks.{checks}
 use Rattle.accept.proofs.Known.{known}
 use Rattle.slate.specs.declared.Slate.{Slate}
-use Rattle.slate.specs.Cut.{heightOf, linesTo}
-use Rattle.slate.specs.Slates.{slated, goodSlate, sizeOf, frameSize, sameShot, sameCut, matching}
+use Rattle.slate.specs.Cut.{heightOf}
+use Rattle.slate.specs.Parts.{shotParts, cutParts, parts}
+use Rattle.slate.specs.Slates.{slated, goodSlate, sizeOf, frameSize, matching}
+use Rattle.slate.proofs.Parts.{same-exactly}
 use Rattle.frame.specs.Counts.{counts}
 use Rattle.frame.specs.Frames.{putAt, ready, placing, offering, offered}
 
@@ -37,21 +39,15 @@ pub record Matching (s : Slate) (f : List ℕ) : Type 0 where
   pub bytes : length (drop (lengthOf f) f) ≡ sizeOf s (factsOf f .number) * 2
 
 pub matches : (s : Slate) (f : List ℕ) → judge fine (checks f) ≡ fine → matching s (factsOf f) ≡ true → Matching s f
-unfolding sameCut
+unfolding shotParts cutParts
 matches s f a m =
     let k = known f a in
     let n = factsOf f .number in
-    let cut = and-eq-true-iff (sameShot s (factsOf f)) (sameCut s (factsOf f)) .0 m .1 in
-    let e3 = and-eq-true-iff _ (eqb (factsOf f .first) (linesTo s (n - 1) + 1)) .0 cut in
-    let e2 = and-eq-true-iff _ (eqb (factsOf f .lines) (heightOf s n)) .0 (e3 .0) in
-    let e1 = and-eq-true-iff (eqb (factsOf f .columns) (s .columns)) (eqb (factsOf f .total) (s .total)) .0 (e2 .0) in
-    let c : factsOf f .columns ≡ s .columns = eqb-true _ _ (e1 .0) in
-    let t : factsOf f .total ≡ s .total = eqb-true _ _ (e1 .1) in
-    let l : factsOf f .lines ≡ heightOf s n = eqb-true _ _ (e2 .1) in
+    let cut = same-exactly (parts s (factsOf f)) .0 m .1 .1 .1 .1 .1 in
     record {
       some = k .some;
-      most = rw (← t) (k .most);
-      bytes = length-drop (lengthOf f) f ∙ k .counts ∙ rw (c, l) (twice (s .columns) (heightOf s n));
+      most = rw (cut .1 .0) (k .most);
+      bytes = length-drop (lengthOf f) f ∙ k .counts ∙ rw (← cut .0, ← cut .1 .1 .0) (twice (s .columns) (heightOf s n));
     }
   where
     twice : (c h : ℕ) → 2 * c * h ≡ h * c * 2

@@ -1,18 +1,22 @@
-// Frames for C, thin over the proved library: a slate of plain numbers, 99 lent marks, and a lent strip of counts.
+// Frames for C, thin over the proved library: a slate of plain numbers, 99 lent marks, and a lent strip of counts; and why a file is none of a slate's.
 use frame::Held;
 use frame::Record;
 use plugin::HsdAnswer;
 use rules::Verdict;
 use rules::Why;
+use slate::Compared;
 use slate::Line;
+use slate::Part;
+use slate::Reason;
 use slate::Slate;
 use slate::Slated;
 ghost use mathlib.Core.Path.{_≡_};
 ghost use lib.ListN.{length};
-ghost use Rattle.rules.specs.Rules.{paper, after};
-ghost use Rattle.slate.specs.Slates.{paperSlate};
+ghost use Rattle.rules.specs.Rules.{paper, after, says};
+ghost use Rattle.slate.specs.Slates.{paperSlate, paperReason, reasonOf};
 ghost use Rattle.plugin.specs.Plugin.{shownRuling};
-ghost use Rattle.plugin_frames.specs.Strips.{bitsFrom, goodMarks, marksIn, marksOut, slateC, openedC, offeredC, openMarks, openStrip, offerMarks, offerStrip, lineC, copiedOf, copyOf};
+ghost use Rattle.plugin_frames.specs.Reasons.{rankOf, shownReason};
+ghost use Rattle.plugin_frames.specs.Strips.{slateIn, bitsFrom, goodMarks, marksIn, marksOut, slateC, openedC, offeredC, openMarks, openStrip, offerMarks, offerStrip, lineC, copiedOf, copyOf};
 
 // satellite is 8 or 9, total the segments and lines those of each segment, area the four letters, the first one highest.
 #[repr(C)]
@@ -180,5 +184,91 @@ pub extern "C" fn hsd_line<'a>(
             let rec = record_of(marks);
             copy(frame::line_of(s, rec, frame, leader, Line(line)), out)
         }
+    }
+}
+
+// refusal, block and offset are the slate's or the file's, and else 0. part is the first in which the two differ, and slate and file what each says of it; 0 where
+// there is none.
+#[repr(C)]
+pub struct HsdWhy {
+    pub refusal: u8,
+    pub block: u8,
+    // 1 satellite, 2 day, 3 timeline, 4 band, 5 area, 6 columns, 7 segment total, 8 lines, 9 first line
+    pub part: u8,
+    pub offset: u32,
+    pub slate: u64,
+    pub file: u64,
+}
+
+fn rank_of(part: Part) -> u8
+    ensures { λ r. ⌜ r ≡ rankOf part ⌝ }
+{
+    match part {
+        Part::Satellite => 1,
+        Part::Day => 2,
+        Part::Timeline => 3,
+        Part::Band => 4,
+        Part::Area => 5,
+        Part::Columns => 6,
+        Part::Total => 7,
+        Part::Lines => 8,
+        Part::FirstLine => 9,
+    }
+}
+
+fn shown_compared(c: Compared) -> HsdWhy
+    ensures { λ r. ⌜ r ≡ shownReason (says c) ⌝ }
+{
+    match c {
+        Compared::Agrees => HsdWhy {
+            refusal: 0,
+            block: 0,
+            part: 0,
+            offset: 0,
+            slate: 0,
+            file: 0,
+        },
+        Compared::Differs(d) => {
+            let part = d.part;
+            HsdWhy {
+                refusal: 0,
+                block: 0,
+                part: rank_of(part),
+                offset: 0,
+                slate: d.slate,
+                file: d.file,
+            }
+        }
+    }
+}
+
+fn shown_reason(reason: Reason) -> HsdWhy
+    ensures { λ r. ⌜ r ≡ shownReason (paperReason reason) ⌝ }
+{
+    match reason {
+        Reason::Compared(c) => shown_compared(c),
+        Reason::Refused(t) => {
+            let answer = plugin::answer_of(Verdict::Refused(t));
+            HsdWhy {
+                refusal: answer.refusal,
+                block: answer.block,
+                part: 0,
+                offset: answer.offset,
+                slate: 0,
+                file: 0,
+            }
+        }
+    }
+}
+
+// Why a file is not a segment of the slate's frame: what is wrong with either, or the first part in which they differ.
+#[no_mangle]
+pub extern "C" fn hsd_why(slate: HsdSlate, file: &[u8]) -> HsdWhy
+    ensures { λ r. ⌜ r ≡ shownReason (reasonOf (slateIn slate) (now (file .entry))) ⌝ }
+{
+    let made = slate_of(slate, true);
+    match made {
+        Slated::Refused(t) => shown_reason(Reason::Refused(t)),
+        Slated::Made(s) => shown_reason(s.why(file)),
     }
 }

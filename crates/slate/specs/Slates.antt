@@ -4,15 +4,21 @@ use mathlib.Core.Bool.{Bool, _&&_, _||_, cond}
 use mathlib.Core.List.{List, [], _∷_}
 use lib.Dec.{leb, eqb}
 use Rattle.wire.specs.Wire.{digits}
-use Rattle.rules.specs.Rules.{paperOf, fine, Row, row, judge, Reply, says, refuses, reply}
+use Rattle.rules.specs.Rules.{paperOf, fine, Row, row, tables, judge, Reply, says, refuses, reply}
 use Rattle.calendar.specs.Shots.{goodDay, goodTimeline}
 use Rattle.format.specs.Ranges.{goodArea, goodSize, goodTotal}
 use Rattle.format.specs.Bands.{goodBand}
 use Rattle.accept.specs.declared.Facts.{Facts}
+use Rattle.accept.specs.Checks.{checks}
+use Rattle.accept.specs.Answers.{factsOf}
 use Rattle.slate.specs.Cut.{heightOf, linesTo, goodCut, coverOf}
+use Rattle.slate.specs.Parts.{comparing, isAgrees}
 use Rattle.slate.specs.declared.Slate.{Slate}
 use Rattle.slate.specs.declared.Slated.{Slated}
 use Rattle.slate.specs.declared.Slated.the-variants.{Made, Refused}
+use Rattle.slate.specs.declared.Compared.{Compared}
+use Rattle.slate.specs.declared.Reason.{Reason}
+use Rattle.slate.specs.declared.Reason.the-variants as reason
 
 -- the parts that name the shot are in range
 abbrev pub goodShot : Slate → Bool
@@ -79,24 +85,16 @@ hasLine s line = goodSlate s && (leb 1 line && leb line (frameLines s))
 unfoldable pub coverOr0 : Slate → ℕ → ℕ
 coverOr0 s line = cond (hasLine s line) (coverOf s line) 0
 
--- ---- the match
+-- ---- the match, and why there is none
 
--- the parts of a slate that name the shot agree
-abbrev pub sameShot : Slate → Facts → Bool
-sameShot s f =
-    eqb (f .satellite) (s .satellite)
-    && eqb (f .day) (s .day)
-    && eqb (f .timeline) (s .timeline)
-    && eqb (f .band) (s .band)
-    && eqb (f .area) (s .area)
-
--- and those that cut it; the file's lines and first line are those of its number's segment
-unfoldable pub sameCut : Slate → Facts → Bool
-sameCut s f =
-    eqb (f .columns) (s .columns)
-    && eqb (f .total) (s .total)
-    && eqb (f .lines) (heightOf s (f .number))
-    && eqb (f .first) (linesTo s (f .number - 1) + 1)
-
+-- an accepted file is a segment of the slate's frame when all parts agree
 abbrev pub matching : Slate → Facts → Bool
-matching s f = sameShot s f && sameCut s f
+matching s f = isAgrees (comparing s f)
+
+unfoldable pub paperReason : Reason → Reply Compared
+paperReason (reason.Compared c) = says c
+paperReason (reason.Refused t) = refuses (paperOf t)
+
+-- the slate's refusal, or else the file's own, or else what comparing the two says
+unfoldable pub reasonOf : Slate → List ℕ → Reply Compared
+reasonOf s f = reply (judge fine (tables (slated s ∷ checks f ∷ []))) (comparing s (factsOf f))

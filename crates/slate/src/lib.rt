@@ -8,7 +8,8 @@ ghost use Prim.Native.Nat.{_+_, _*_, _-_, _≤_};
 ghost use Rattle.wire.specs.Wire.{digits};
 ghost use Rattle.rules.specs.Rules.{paper, judge};
 ghost use Rattle.slate.specs.Cut.{heightOf, linesTo, goodCut};
-ghost use Rattle.slate.specs.Slates.{goodSlate, slated, paperSlate, partsOf, slateOf, sizeOf, startOf, frameLines, frameSize, placeOf, hasLine, coverOr0, sameShot, sameCut, matching};
+ghost use Rattle.slate.specs.Parts.{shotParts, cutParts, further, compareAll, comparing};
+ghost use Rattle.slate.specs.Slates.{goodSlate, slated, paperSlate, partsOf, slateOf, sizeOf, startOf, frameLines, frameSize, placeOf, hasLine, coverOr0, matching, paperReason, reasonOf};
 
 // A line and a column of the frame, both counted from 1; neither stands for the other.
 pub struct Line(pub u16);
@@ -31,6 +32,37 @@ pub struct Slate {
 
 pub enum Slated {
     Made(Slate),
+    Refused(Refusal),
+}
+
+// The parts of a slate that a file has, too, in the paper's order.
+pub enum Part {
+    Satellite,
+    Day,
+    Timeline,
+    Band,
+    Area,
+    Columns,
+    Total,
+    Lines,
+    FirstLine,
+}
+
+// A part in which a slate and a file differ, and what each of them says of it.
+pub struct Difference {
+    pub part: Part,
+    pub slate: u64,
+    pub file: u64,
+}
+
+pub enum Compared {
+    Agrees,
+    Differs(Difference),
+}
+
+// Why a file is not a segment of a slate's frame, if it is not.
+pub enum Reason {
+    Compared(Compared),
     Refused(Refusal),
 }
 
@@ -176,34 +208,78 @@ impl Slate {
         }
     }
 
+    // What is wrong with the slate, or else with the file, or else the first part in which the two differ.
+    pub fn why(self, file: &[u8]) -> Reason
+        ensures { λ r. ⌜ paperReason r ≡ reasonOf self (now (file .entry)) ⌝ }
+    {
+        let v = self.check(Verdict::Fine);
+        let v = accept::check_file(v, file);
+        match v {
+            Verdict::Refused(t) => Reason::Refused(t),
+            Verdict::Fine => Reason::Compared(self.compare(accept::facts_of(file))),
+        }
+    }
+
     // Whether an accepted file is a segment of this slate's frame.
     pub fn matches(self, f: Facts) -> bool
         ensures { λ r. ⌜ r ≡ matching self f ⌝ }
     {
-        self.same_shot(f) & self.same_cut(f)
+        let c = self.compare(f);
+        match c {
+            Compared::Agrees => true,
+            Compared::Differs(_) => false,
+        }
     }
 
-    fn same_shot(self, f: Facts) -> bool
-        ensures { λ r. ⌜ r ≡ sameShot self f ⌝ }
+    // The first part in which they differ, of the one list that `why` and `matches` go by.
+    fn compare(self, f: Facts) -> Compared
+        ensures { λ r. ⌜ r ≡ comparing self f ⌝ }
     {
-        (f.satellite == self.satellite)
-            & (f.day == self.day)
-            & (f.timeline == self.timeline)
-            & (f.band == self.band)
-            & (f.area == self.area)
+        let c = self.compare_shot(Compared::Agrees, f);
+        self.compare_cut(c, f)
     }
 
-    fn same_cut(self, f: Facts) -> bool
-        ensures { λ r. ⌜ r ≡ sameCut self f ⌝ }
+    fn compare_shot(self, c: Compared, f: Facts) -> Compared
+        ensures { λ r. ⌜ r ≡ compareAll c (shotParts self f) ⌝ }
     {
-        let stated = f.first as usize;
-        let number = f.number;
-        let height = self.height_of(number);
-        let first = self.lines_to(down(number as u16)) as usize + 1;
-        (f.columns == self.columns)
-            & (f.total == self.total)
-            & (f.lines == height)
-            & (stated == first)
+        let c = further(
+            c,
+            Part::Satellite,
+            self.satellite as u64,
+            f.satellite as u64,
+        );
+        let c = further(c, Part::Day, self.day as u64, f.day as u64);
+        let c = further(c, Part::Timeline, self.timeline as u64, f.timeline as u64);
+        let c = further(c, Part::Band, self.band as u64, f.band as u64);
+        further(c, Part::Area, self.area as u64, f.area as u64)
+    }
+
+    fn compare_cut(self, c: Compared, f: Facts) -> Compared
+        ensures { λ r. ⌜ r ≡ compareAll c (cutParts self f) ⌝ }
+    {
+        let stated = f.first as u64;
+        let height = self.height_of(f.number) as u64;
+        let first = self.lines_to(down(f.number as u16)) as u64 + 1;
+        let c = further(c, Part::Columns, self.columns as u64, f.columns as u64);
+        let c = further(c, Part::Total, self.total as u64, f.total as u64);
+        let c = further(c, Part::Lines, height, f.lines as u64);
+        further(c, Part::FirstLine, first, stated)
+    }
+}
+
+// One part more: the first that differs answers.
+fn further(c: Compared, part: Part, slate: u64, file: u64) -> Compared
+    ensures { λ r. ⌜ r ≡ further c part slate file ⌝ }
+{
+    match c {
+        Compared::Differs(d) => Compared::Differs(d),
+        Compared::Agrees => {
+            if slate == file {
+                Compared::Agrees
+            } else {
+                Compared::Differs(Difference { part, slate, file })
+            }
+        }
     }
 }
 

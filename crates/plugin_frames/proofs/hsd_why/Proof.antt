@@ -1,0 +1,37 @@
+use mathlib.Core.Path.{sym, ap, _∙_}
+use denote.Ref.{now}
+use Rattle.slate.specs.declared.Slate.{Slate}
+use Rattle.slate.specs.Slates.{paperSlate, paperReason, reasonOf}
+use Rattle.plugin_frames.specs.Reasons.{shownReason}
+use Rattle.plugin_frames.proofs.Lending.{lent-made, lent-why}
+use borrow.Author.Needs.{needs}
+use Rattle.plugin_frames.proofs.hsd_why.Statement.{statement}
+use Rattle.plugin_frames.proofs.hsd_why.Tie as tie
+
+returns : tie.Need-returns
+unfolding paperSlate paperReason
+returns c =
+    let made = c .before .before in
+    c .shown-reason .ensures ∙ ap shownReason (lent-why _ _ (sym (ap paperSlate (made .made .given .1)) ∙ made .before .before .slate-of .ensures) _)
+
+returns-2 : tie.Need-returns-2
+unfolding paperSlate
+returns-2 c =
+    let asked = c .before in
+    let made = asked .before .before in
+    let g = lent-made _ _ _ (sym (ap paperSlate (made .made2 .given .1)) ∙ made .before .before .slate-of .ensures) in
+    let file = made .before .before .before .before .args .file in
+    c .shown-reason2 .ensures ∙ ap shownReason (asked .why .ensures ∙ ap (λ (s : Slate). reasonOf s (now file)) (sym (g .slate)))
+
+pub hsd-why-spec : {M : Type 1} → statement M
+hsd-why-spec =
+    tie.close
+    (tie.spec
+    (λ c κs. search needs)
+    (λ c. search needs)
+    (λ c κs. search needs)
+    (λ c. search needs)
+    (λ c κs. search needs)
+    (λ c κs. search needs)
+    returns
+    returns-2)
