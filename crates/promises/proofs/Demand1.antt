@@ -19,7 +19,7 @@ use Rattle.header.specs.Places.{aOf, bOf, cOf}
 use Rattle.header.specs.Values.{headerOf}
 use Rattle.accept.specs.Checks.{shape, entries, shape1, fields1, fixed2, fields2, fixed5, fields5, fields7, sums, names, ends, blocks1to4, blocks5to7, blocks8to11, whole, checks}
 use Rattle.accept.specs.Answers.{factsOf, paperAnswer, answerOf}
-use Rattle.slate.specs.Slates.{slated, paperSlate, slateOf}
+use Rattle.slate.specs.Slates.{slated, paperSlate, slateOf, paperReason, reasonOf}
 use Rattle.frame.specs.Frames.{opening, openFrame, ready, placing, offering, recordAfter, frameAfter}
 use Rattle.frame.specs.Lines.{shown}
 use Rattle.frame.proofs.Asking.{line-length, line-some}
@@ -50,6 +50,7 @@ use Rattle.slate.proofs.Slate.check.Reads as check-slate
 use Rattle.accept.proofs.verdict.Reads as verdict
 use Rattle.accept.proofs.accept.Reads as accept
 use Rattle.slate.proofs.Slate.new.Reads as new
+use Rattle.slate.proofs.Slate.why.Reads as why
 use Rattle.frame.proofs.open.Reads as opens
 use Rattle.frame.proofs.offer.Reads as offer
 use Rattle.writer.proofs.write.Reads as write
@@ -69,9 +70,10 @@ use Rattle.plugin_reels.proofs.hsd_reel_seal.Reads as hsd-reel-seal
 use Rattle.plugin_frames.proofs.hsd_open.Reads as hsd-open
 use Rattle.plugin_frames.proofs.hsd_offer.Reads as hsd-offer
 use Rattle.plugin_frames.proofs.hsd_line.Reads as hsd-line
+use Rattle.plugin_frames.proofs.hsd_why.Reads as hsd-why
 use Rattle.promises.specs.Bare.{Bare}
 use Rattle.promises.specs.Blocks.{allowed, allowedC, inTable, Onward}
-use Rattle.promises.proofs.Refusals.{refused-in, refuses-in, left, in-append, onward, shown-allowed, shown-left, none-left, file-allowed, number-allowed, bare, no-number, reel-allowed, no-files}
+use Rattle.promises.proofs.Refusals.{refused-in, refuses-in, left, in-append, onward, shown-allowed, shown-left, none-left, file-allowed, number-allowed, bare, no-number, reel-allowed, no-files, why-allowed, no-part}
 
 -- ---- every table is the paper's
 
@@ -187,6 +189,14 @@ of-frame-number κ a r t p u e = refuses-in (shots (a .0) (a .1 .0) (a .1 .1 .0)
 pub of-slate : (κ : _) (a : _) (r : _) (t : _) → new.Post κ a r t → (u : Turned) → paperSlate r ≡ refuses u → allowed u ≡ true
 unfolding slateOf slated inTable allowed
 of-slate κ a r t p u e = refuses-in (slated _) refl _ u (sym p ∙ e)
+
+pub in-why : (s : _) (f : List ℕ) → inTable (tables (slated s ∷ checks f ∷ [])) ≡ true
+unfolding slated tables inTable allowed
+in-why s f = in-append (checks f) [] (in-checks f) refl
+
+pub of-why : (κ : _) (a : _) (r : _) (t : _) → why.Post κ a r t → (u : Turned) → paperReason r ≡ refuses u → allowed u ≡ true
+unfolding reasonOf
+of-why κ a r t p u e = refuses-in (tables (slated (a .0) ∷ checks (now (a .1 .0)) ∷ [])) (in-why (a .0) (now (a .1 .0))) _ u (sym p ∙ e)
 
 -- ---- frames: the lent frame and the record
 
@@ -345,6 +355,14 @@ of-hsd-offer κ a r t p =
 -- a line that is refused, the one refusal without a number, is no count
 pub of-hsd-line : (κ : _) (a : _) (r : _) (t : _) → hsd-line.Post κ a r t → r ≡ 0 → now (t .1 .1 .1 .1 .1 .0) ≡ now (a .1 .1 .1 .1 .1 .0)
 of-hsd-line κ a r t p e = p .1 ∙ none-left (lineC (a .0) (now (a .1 .0)) (now (a .1 .1 .0)) (now (a .1 .1 .1 .0)) (a .1 .1 .1 .1 .0)) (now (a .1 .1 .1 .1 .1 .0)) (sym (p .0) ∙ e)
+
+-- a refusal tells no part and no values
+pub of-hsd-why : (κ : _) (a : _) (r : _) (t : _) → hsd-why.Post κ a r t
+    → (allowedC (r .refusal) (r .block) (r .offset) ≡ true) × ((r .refusal ≡ 0 → ⊥) → (r .part ≡ 0) × (r .slate ≡ 0) × (r .file ≡ 0))
+unfolding reasonOf
+of-hsd-why κ a r t p =
+    let rows = tables (slated (slateIn (a .0)) ∷ checks (now (a .1 .0)) ∷ []) in
+    rw p (why-allowed rows (in-why _ _) _ _ refl, no-part (judge fine rows) _)
 
 -- ---- night totals: what is lent is the file alone, and the run goes by value (Night: `Adds` says what a refusal leaves of it)
 

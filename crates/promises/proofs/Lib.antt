@@ -12,6 +12,7 @@ pub mod Told
 pub mod Demand2
 pub mod Runs
 pub mod Slated
+pub mod Why
 pub mod Demand3
 pub mod FromC
 pub mod Quality

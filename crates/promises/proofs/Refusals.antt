@@ -13,7 +13,10 @@ use lib.ListN.{length, drop}
 use lib.IntN.{ℤ, pos}
 use Rattle.accept.specs.declared.Facts.{Facts}
 use Rattle.plugin.specs.Plugin.{shownRuling, shownFile, shownFrame}
+use Rattle.slate.specs.declared.Compared.{Compared}
+use Rattle.slate.specs.declared.Compared.the-variants.{Agrees, Differs}
 use Rattle.plugin_frames.specs.Strips.{copiedOf, copyOf}
+use Rattle.plugin_frames.specs.Reasons.{shownReason}
 use Rattle.plugin_reels.specs.Reels.{shownReel}
 use Rattle.promises.specs.Bare.{Bare}
 use Rattle.promises.specs.Blocks.{table, listed, allowed, allowedC, inTable, Onward}
@@ -157,3 +160,16 @@ pub no-files : (v : Ruling) (x : ℕ) → (shownReel (reply v x) .refusal ≡ 0 
 unfolding shownReel reply
 no-files fine x h = absurd (h refl)
 no-files (refused (turned n b p)) x h = refl
+
+-- and of why
+pub why-allowed : (rs : List Row) → inTable rs ≡ true → (v : Ruling) (x : Compared) → v ≡ judge fine rs → allowedC (shownReason (reply v x) .refusal) (shownReason (reply v x) .block) (shownReason (reply v x) .offset) ≡ true
+unfolding shownReason reply
+why-allowed rs h fine Agrees e = refl
+why-allowed rs h fine (Differs d) e = refl
+why-allowed rs h (refused (turned n b p)) x e = rw (refused-in rs h (turned n b p) (sym e)) (or-true (eqb n 0))
+
+pub no-part : (v : Ruling) (x : Compared) → (shownReason (reply v x) .refusal ≡ 0 → ⊥) → (shownReason (reply v x) .part ≡ 0) × (shownReason (reply v x) .slate ≡ 0) × (shownReason (reply v x) .file ≡ 0)
+unfolding shownReason reply
+no-part fine Agrees h = absurd (h refl)
+no-part fine (Differs d) h = absurd (h refl)
+no-part (refused (turned n b p)) x h = (refl, refl, refl)

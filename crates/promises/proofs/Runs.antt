@@ -39,7 +39,7 @@ use Rattle.promises.proofs.Demand1.{in-opening, in-offering, in-lent}
 
 -- ---- marks out and in again
 
-getD-flags : (m : List ℕ) (n i : ℕ) → i < n → getD (flags m n) i false ≡ eqb (getD m i 0) 1
+pub getD-flags : (m : List ℕ) (n i : ℕ) → i < n → getD (flags m n) i false ≡ eqb (getD m i 0) 1
 unfolding flags
 getD-flags m zero i h = absurd (omega arith)
 getD-flags m (suc n) i h = go (eqb i n) refl (getD-flags m n i)

@@ -18,10 +18,12 @@ use Rattle.format.specs.Bands.{goodBand}
 use Rattle.accept.specs.declared.Facts.{Facts}
 use Rattle.slate.specs.declared.Slate.{Slate}
 use Rattle.slate.specs.Cut.{heightOf, linesTo, goodCut}
-use Rattle.slate.specs.Slates.{goodShot, goodSlate, slated, sameShot, sameCut, matching}
+use Rattle.slate.specs.Parts.{shotParts, cutParts, parts}
+use Rattle.slate.specs.Slates.{goodShot, goodSlate, slated, matching}
+use Rattle.slate.proofs.Parts.{same-exactly}
 use Rattle.tiling.proofs.Lawful.{both, and, either, or-left, or-right, timeline-is, timeline-of, area-is, area-of}
 use Rattle.rules.specs.Rules.{Ruling, fine, refused, judge, paper}
-use Rattle.rules.proofs.Judge.{exactly, each-is}
+use Rattle.rules.proofs.Judge.{exactly, each-is, holds}
 use Rattle.accept.specs.Checks.{checks}
 use Rattle.accept.specs.Answers.{factsOf}
 use Rattle.frame.specs.Frames.{ready, placing, offering}
@@ -41,43 +43,35 @@ between a b = and (le-leb _ _ a) (le-leb _ _ b)
 
 module _ (s : Slate) (f : Facts) where
   match-is : matching s f ≡ true → Match s f
-  unfolding sameCut heightOf linesTo
+  unfolding shotParts cutParts heightOf linesTo
   match-is e =
-      let satellite = eqb (f .satellite) (s .satellite) in
-      let day = eqb (f .day) (s .day) in
-      let timeline = eqb (f .timeline) (s .timeline) in
-      let band = eqb (f .band) (s .band) in
-      let area = eqb (f .area) (s .area) in
-      let columns = eqb (f .columns) (s .columns) in
-      let total = eqb (f .total) (s .total) in
-      let lines = eqb (f .lines) (s .lines) in
-      let first = eqb (f .first) ((f .number - 1) * s .lines + 1) in
-      let h = both (sameShot s f) (sameCut s f) e in
-      let h5 = both (satellite && day && timeline && band) area (h .0) in
-      let h4 = both (satellite && day && timeline) band (h5 .0) in
-      let h3 = both (satellite && day) timeline (h4 .0) in
-      let h2 = both satellite day (h3 .0) in
-      let c4 = both (columns && total && lines) first (h .1) in
-      let c3 = both (columns && total) lines (c4 .0) in
-      let c2 = both columns total (c3 .0) in
+      let h = same-exactly (parts s f) .0 e in
+      let cut = h .1 .1 .1 .1 .1 in
       record {
-        satellite = eqb-true _ _ (h2 .0);
-        day = eqb-true _ _ (h2 .1);
-        timeline = eqb-true _ _ (h3 .1);
-        band = eqb-true _ _ (h4 .1);
-        area = eqb-true _ _ (h5 .1);
-        columns = eqb-true _ _ (c2 .0);
-        total = eqb-true _ _ (c2 .1);
-        lines = eqb-true _ _ (c3 .1);
-        first = eqb-true _ _ (c4 .1) ∙ add-comm ((f .number - 1) * s .lines) 1;
+        satellite = sym (h .0);
+        day = sym (h .1 .0);
+        timeline = sym (h .1 .1 .0);
+        band = sym (h .1 .1 .1 .0);
+        area = sym (h .1 .1 .1 .1 .0);
+        columns = sym (cut .0);
+        total = sym (cut .1 .0);
+        lines = sym (cut .1 .1 .0);
+        first = sym (cut .1 .1 .1 .0) ∙ add-comm ((f .number - 1) * s .lines) 1;
       }
 
   match-of : Match s f → matching s f ≡ true
-  unfolding sameCut heightOf linesTo
+  unfolding shotParts cutParts heightOf linesTo
   match-of m =
-      and
-      (and (and (and (and (eq-eqb _ _ (m .satellite)) (eq-eqb _ _ (m .day))) (eq-eqb _ _ (m .timeline))) (eq-eqb _ _ (m .band))) (eq-eqb _ _ (m .area)))
-      (and (and (and (eq-eqb _ _ (m .columns)) (eq-eqb _ _ (m .total))) (eq-eqb _ _ (m .lines))) (eq-eqb _ _ (m .first ∙ add-comm 1 ((f .number - 1) * s .lines))))
+      same-exactly (parts s f) .1
+      (holds (sym (m .satellite))
+      (holds (sym (m .day))
+      (holds (sym (m .timeline))
+      (holds (sym (m .band))
+      (holds (sym (m .area))
+      (holds (sym (m .columns))
+      (holds (sym (m .total))
+      (holds (sym (m .lines))
+      (holds (sym (m .first ∙ add-comm 1 ((f .number - 1) * s .lines))) tt)))))))))
 
   pub match-exactly : (matching s f ≡ true) ↔ Match s f
   match-exactly = (match-is, match-of)
@@ -171,7 +165,7 @@ placed κ a r t p q =
 
 -- ---- the record tells how many numbers are marked
 
-mark-at : (marks : List Bool) (k : ℕ) → k < 99 → marked marks (k + 1) ≡ getD marks k false
+pub mark-at : (marks : List Bool) (k : ℕ) → k < 99 → marked marks (k + 1) ≡ getD marks k false
 unfolding marked
 mark-at marks k h = let e : k + 1 - 1 ≡ k = omega arith in rw (le-leb 1 (k + 1) (omega arith), le-leb (k + 1) 99 (omega arith), e)
 

@@ -13,3 +13,4 @@ pub mod Slated
 pub mod Quality
 pub mod Reels
 pub mod Night
+pub mod Why
