@@ -18,7 +18,7 @@ use Rattle.rules.specs.Rules.{Row, row, Turned, turned, fine, Ruling, refused, 
 use Rattle.rules.proofs.Judge.{exactly, each-is, tried, table, last, judge-refused, said, turned-away}
 use Rattle.accept.specs.Checks.{checks}
 use Rattle.slate.specs.declared.Slate.{Slate}
-use Rattle.slate.specs.Slates.{goodSlate, slated, slateOf, frameSize, reasonOf}
+use Rattle.slate.specs.Slates.{goodSlate, slated, slateOf, frameSize, asking, reasonOf}
 use Rattle.frame.specs.Frames.{opening, opened, openFrame, ready, placing, offering, offered, frameAfter}
 use Rattle.frame.specs.Lines.{lineGood, lineOf}
 use Rattle.plugin_frames.specs.declared.HsdSlate.{HsdSlate}
@@ -130,7 +130,7 @@ module _ (s : HsdSlate) (m : List ℕ) (t : Turned) where
 
 -- a bad slate is told before the file is looked at
 pub lent-why : (s : HsdSlate) (t : Turned) → refuses t ≡ slateC s true → (f : List ℕ) → refuses t ≡ reasonOf (slateIn s) f
-unfolding reasonOf reply tables
+unfolding asking reasonOf reply tables
 lent-why s t e f = rw (sym (lent-good true (slated (slateIn s) ++ (checks f ++ [])) refl) ∙ lent-refused s true t e (checks f ++ []))
 
 -- ---- what a refusal leaves is left

@@ -19,7 +19,7 @@ use Rattle.header.specs.Places.{aOf, bOf, cOf}
 use Rattle.header.specs.Values.{headerOf}
 use Rattle.accept.specs.Checks.{shape, entries, shape1, fields1, fixed2, fields2, fixed5, fields5, fields7, sums, names, ends, blocks1to4, blocks5to7, blocks8to11, whole, checks}
 use Rattle.accept.specs.Answers.{factsOf, paperAnswer, answerOf}
-use Rattle.slate.specs.Slates.{slated, paperSlate, slateOf, paperReason, reasonOf}
+use Rattle.slate.specs.Slates.{slated, paperSlate, slateOf, asking, paperReason, reasonOf}
 use Rattle.frame.specs.Frames.{opening, openFrame, ready, placing, offering, recordAfter, frameAfter}
 use Rattle.frame.specs.Lines.{shown}
 use Rattle.frame.proofs.Asking.{line-length, line-some}
@@ -190,13 +190,13 @@ pub of-slate : (κ : _) (a : _) (r : _) (t : _) → new.Post κ a r t → (u : T
 unfolding slateOf slated inTable allowed
 of-slate κ a r t p u e = refuses-in (slated _) refl _ u (sym p ∙ e)
 
-pub in-why : (s : _) (f : List ℕ) → inTable (tables (slated s ∷ checks f ∷ [])) ≡ true
-unfolding slated tables inTable allowed
-in-why s f = in-append (checks f) [] (in-checks f) refl
+pub in-asking : (s : _) (f : List ℕ) → inTable (asking s f) ≡ true
+unfolding asking slated tables inTable allowed
+in-asking s f = in-append (checks f) [] (in-checks f) refl
 
 pub of-why : (κ : _) (a : _) (r : _) (t : _) → why.Post κ a r t → (u : Turned) → paperReason r ≡ refuses u → allowed u ≡ true
 unfolding reasonOf
-of-why κ a r t p u e = refuses-in (tables (slated (a .0) ∷ checks (now (a .1 .0)) ∷ [])) (in-why (a .0) (now (a .1 .0))) _ u (sym p ∙ e)
+of-why κ a r t p u e = refuses-in (asking (a .0) (now (a .1 .0))) (in-asking _ _) _ u (sym p ∙ e)
 
 -- ---- frames: the lent frame and the record
 
@@ -361,8 +361,8 @@ pub of-hsd-why : (κ : _) (a : _) (r : _) (t : _) → hsd-why.Post κ a r t
     → (allowedC (r .refusal) (r .block) (r .offset) ≡ true) × ((r .refusal ≡ 0 → ⊥) → (r .part ≡ 0) × (r .slate ≡ 0) × (r .file ≡ 0))
 unfolding reasonOf
 of-hsd-why κ a r t p =
-    let rows = tables (slated (slateIn (a .0)) ∷ checks (now (a .1 .0)) ∷ []) in
-    rw p (why-allowed rows (in-why _ _) _ _ refl, no-part (judge fine rows) _)
+    let rows = asking (slateIn (a .0)) (now (a .1 .0)) in
+    rw p (why-allowed rows (in-asking _ _) _ _ refl, no-part (judge fine rows) _)
 
 -- ---- night totals: what is lent is the file alone, and the run goes by value (Night: `Adds` says what a refusal leaves of it)
 

@@ -11,7 +11,7 @@ use Rattle.calendar.specs.Shots.{shot, paperSlot, slotOf, shots, paperFrame, fi
 use Rattle.header.specs.Places.{aOf, bOf, cOf}
 use Rattle.accept.specs.Checks.{checks}
 use Rattle.accept.specs.Answers.{factsOf, paperAnswer, answerOf}
-use Rattle.slate.specs.Slates.{slated, paperSlate, partsOf, slateOf}
+use Rattle.slate.specs.Slates.{slated, paperSlate, partsOf, slateOf, asking, paperReason, reasonOf}
 use Rattle.frame.specs.Frames.{opening, offering}
 use Rattle.writer.specs.Given.{given}
 use Rattle.writer.specs.Sizes.{entriesFrom}
@@ -21,6 +21,7 @@ use Rattle.calendar.proofs.frame_number.Reads as frame-number
 use Rattle.accept.proofs.verdict.Reads as verdict
 use Rattle.accept.proofs.accept.Reads as accept
 use Rattle.slate.proofs.Slate.new.Reads as new
+use Rattle.slate.proofs.Slate.why.Reads as why
 use Rattle.frame.proofs.open.Reads as opens
 use Rattle.frame.proofs.offer.Reads as offer
 use Rattle.writer.proofs.write.Reads as write
@@ -94,6 +95,12 @@ pub of-frame-number : (κ : _) (a : _) (r : _) (t : _) → frame-number.Post κ 
     → (paperFrame r ≡ refuses u) ↔ First (shots (a .0) (a .1 .0) (a .1 .1 .0) (a .1 .1 .1 .0)) u
 unfolding filmFrameOf
 of-frame-number κ a r t p = answer _ _ p
+
+-- ---- why: the slate, and then the file's own
+
+pub of-why : (κ : _) (a : _) (r : _) (t : _) → why.Post κ a r t → (u : Turned) → (paperReason r ≡ refuses u) ↔ First (asking (a .0) (now (a .1 .0))) u
+unfolding reasonOf
+of-why κ a r t p = answer _ _ p
 
 -- ---- night totals: RUN, and then the file's own
 

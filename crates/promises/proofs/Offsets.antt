@@ -24,7 +24,10 @@ use Rattle.header.specs.Values.{block1Of, block2Of, block5Of, block7Of}
 use Rattle.accept.specs.Checks.{shape, entries, shape1, fields1, fixed2, fields2, fixed5, fields5, fields7, sums, names, ends, blocks1to4, blocks5to7, blocks8to11, whole, checks}
 use Rattle.accept.specs.declared.Facts.{Facts}
 use Rattle.accept.specs.Answers.{factsOf, paperAnswer, answerOf}
-use Rattle.slate.specs.Slates.{slated}
+use Rattle.slate.specs.declared.Compared.{Compared}
+use Rattle.slate.specs.declared.Compared.the-variants.{Agrees, Differs}
+use Rattle.slate.specs.Slates.{slated, asking, paperReason, reasonOf}
+use Rattle.slate.proofs.Slate.why.Reads as why
 use Rattle.frame.specs.Frames.{ready, placing, offering}
 use Rattle.reader.specs.Reads.{rooms2, rooms3}
 use Rattle.writer.specs.Given.{given}
@@ -36,7 +39,8 @@ use Rattle.listing.specs.Lines.{width, numeral, refusalWords, lineWords, Listed
 use Rattle.listing.specs.Lines as listing
 use Rattle.tiling.specs.Lawful.{text}
 use Rattle.plugin.specs.Plugin.{shownRuling, shownFile, shownFrame}
-use Rattle.plugin_frames.specs.Strips.{lent, offeredC}
+use Rattle.plugin_frames.specs.Strips.{slateIn, lent, offeredC}
+use Rattle.plugin_frames.specs.Reasons.{shownReason}
 use Rattle.plugin_reels.specs.Reels.{shownReel}
 use Rattle.calendar.proofs.slot.Reads as slot
 use Rattle.calendar.proofs.frame_number.Reads as frame-number
@@ -55,6 +59,7 @@ use Rattle.listing.proofs.line.Reads as line
 use Rattle.plugin.proofs.hsd_accept.Reads as hsd-accept
 use Rattle.plugin.proofs.hsd_frame_number.Reads as hsd-frame-number
 use Rattle.plugin_frames.proofs.hsd_offer.Reads as hsd-offer
+use Rattle.plugin_frames.proofs.hsd_why.Reads as hsd-why
 use Rattle.plugin_reels.proofs.hsd_reel_open.Reads as hsd-reel-open
 use Rattle.plugin_reels.proofs.hsd_reel_write.Reads as hsd-reel-write
 use Rattle.plugin_reels.proofs.hsd_reel_seal.Reads as hsd-reel-seal
@@ -187,6 +192,15 @@ of-write-reel κ a r t p h u e = rw (← handed-listed h) (wrote-of _ _ _ _ u (s
 pub of-seal : (κ : _) (a : _) (r : _) (t : _) → seal.Post κ a r t → {fs : List File} → Handed (now (a .0)) (now (a .1 .0)) fs → (u : Turned) → paper r ≡ refused u → Concerns fs u
 of-seal κ a r t p h u e = rw (← handed-listed h) (wrote-of _ _ _ _ u (sym (p .0) ∙ e))
 
+-- ---- why
+
+asked-for : (s : _) (f : File) (u : Turned) → First (asking s f) u → Concerns (f ∷ []) u
+unfolding asking tables slated
+asked-for s f u h = between (f ∷ []) (slated s) (checks f) [] u refl refl (alone f u) h
+
+pub of-why : (κ : _) (a : _) (r : _) (t : _) → why.Post κ a r t → (u : Turned) → paperReason r ≡ refuses u → Concerns (now (a .1 .0) ∷ []) u
+of-why κ a r t p u e = asked-for (a .0) (now (a .1 .0)) u (first.of-why κ a r t p u .0 e)
+
 -- ---- night totals
 
 added-for : (run : _) (f : File) (u : Turned) → First (nights.adding run f) u → Concerns (f ∷ []) u
@@ -259,6 +273,13 @@ unfolding shownFrame reply
 shown-frame fine x h = absurd (h refl)
 shown-frame (refused (turned n b p)) x h = refl
 
+shown-why : (v : Ruling) (x : Compared) → (shownReason (reply v x) .refusal ≡ 0 → ⊥)
+    → v ≡ refused (turned (shownReason (reply v x) .refusal) (shownReason (reply v x) .block) (shownReason (reply v x) .offset))
+unfolding shownReason reply
+shown-why fine Agrees h = absurd (h refl)
+shown-why fine (Differs d) h = absurd (h refl)
+shown-why (refused (turned n b p)) x h = refl
+
 pub of-hsd-accept : (κ : _) (a : _) (r : _) (t : _) → hsd-accept.Post κ a r t → (r .refusal ≡ 0 → ⊥) → First (fields (now (a .0))) (turned (r .refusal) (r .block) (r .offset))
 unfolding answerOf
 of-hsd-accept κ a r t p = rw p (λ h. rw (← fields-are (now (a .0))) (first-fails (checks (now (a .0))) _ .0 (shown-file (judge fine (checks (now (a .0)))) (factsOf (now (a .0))) h)))
@@ -269,6 +290,10 @@ lent-for ok s marks size f u h = between (f ∷ []) (lent ok) (offering s marks 
 
 pub of-hsd-offer : (κ : _) (a : _) (r : _) (t : _) → hsd-offer.Post κ a r t → (r .refusal ≡ 0 → ⊥) → Concerns (now (a .1 .1 .1 .0) ∷ []) (turned (r .refusal) (r .block) (r .offset))
 of-hsd-offer κ a r t p = rw (p .0) (λ h. lent-for _ _ _ _ _ _ (first-fails _ _ .0 (shown-ruling (offeredC (a .0) (now (a .1 .0)) (length (now (a .1 .1 .0))) (now (a .1 .1 .1 .0))) h)))
+
+pub of-hsd-why : (κ : _) (a : _) (r : _) (t : _) → hsd-why.Post κ a r t → (r .refusal ≡ 0 → ⊥) → Concerns (now (a .1 .0) ∷ []) (turned (r .refusal) (r .block) (r .offset))
+unfolding reasonOf
+of-hsd-why κ a r t p = rw p (λ h. asked-for _ _ _ (first-fails _ _ .0 (shown-why (judge fine (asking (slateIn (a .0)) (now (a .1 .0)))) _ h)))
 
 pub of-hsd-reel-open : (κ : _) (a : _) (r : _) (t : _) → hsd-reel-open.Post κ a r t → {ps : List File} → Laid (now (a .0)) ps → (r .refusal ≡ 0 → ⊥) → Concerns ps (turned (r .refusal) (r .block) (r .offset))
 unfolding opened

@@ -6,7 +6,7 @@ use Rattle.promises.specs.Answers.{One}
 use Rattle.rules.proofs.Paper.{paper-one}
 use Rattle.calendar.proofs.Paper.{paperDay-one, paperSlot-one, paperFrame-one}
 use Rattle.accept.proofs.Paper.{paperAnswer-one}
-use Rattle.slate.proofs.Paper.{paperSlate-one}
+use Rattle.slate.proofs.Paper.{paperSlate-one, paperReason-one}
 use Rattle.reel.proofs.Paper.{paperOpened-one}
 use Rattle.wire.proofs.byte_at.Reads as byte-at
 use Rattle.wire.proofs.left.Reads as left
@@ -79,6 +79,7 @@ use Rattle.slate.proofs.Slate.place_of.Reads as place-of
 use Rattle.slate.proofs.Slate.has_line.Reads as has-line
 use Rattle.slate.proofs.Slate.cover_of.Reads as cover-of
 use Rattle.slate.proofs.Slate.matches.Reads as slate-matches
+use Rattle.slate.proofs.Slate.why.Reads as slate-why
 use Rattle.frame.proofs.empty.Reads as empty
 use Rattle.frame.proofs.is_marked.Reads as is-marked
 use Rattle.frame.proofs.tally.Reads as tally
@@ -114,6 +115,7 @@ use Rattle.plugin.proofs.hsd_valid_bits.Reads as hsd-valid-bits
 use Rattle.plugin_frames.proofs.hsd_open.Reads as hsd-open
 use Rattle.plugin_frames.proofs.hsd_offer.Reads as hsd-offer
 use Rattle.plugin_frames.proofs.hsd_line.Reads as hsd-line
+use Rattle.plugin_frames.proofs.hsd_why.Reads as hsd-why
 use Rattle.plugin_reels.proofs.hsd_reel_open.Reads as hsd-reel-open
 use Rattle.plugin_reels.proofs.hsd_reel_part.Reads as hsd-reel-part
 use Rattle.plugin_reels.proofs.hsd_reel_trailer.Reads as hsd-reel-trailer
@@ -354,6 +356,9 @@ cover-of-one κ a x y s t p q = p ∙ sym q
 pub slate-matches-one : One (λ κ x s. x) slate-matches.Post
 slate-matches-one κ a x y s t p q = p ∙ sym q
 
+pub slate-why-one : One (λ κ x s. x) slate-why.Post
+slate-why-one κ a x y s t p q = paperReason-one x y (p ∙ sym q)
+
 pub is-marked-one : One (λ κ x s. x) is-marked.Post
 is-marked-one κ a x y s t p q = p ∙ sym q
 
@@ -494,6 +499,9 @@ hsd-line-one = (
   λ κ a x y s t p q. p .0 ∙ sym (q .0),
   λ κ a x y s t p q. p .1 ∙ sym (q .1),
 )
+
+pub hsd-why-one : One (λ κ x s. x) hsd-why.Post
+hsd-why-one κ a x y s t p q = p ∙ sym q
 
 -- ---- reels
 

@@ -8,10 +8,10 @@ use Rattle.header.specs.declared.Header.{Header}
 use Rattle.header.specs.Encode.{Entries}
 use Rattle.accept.specs.Checks.{shape, entries, shape1, fields1, fixed2, fields2, fixed5, fields5, fields7, sums, names, ends, blocks1to4, blocks5to7, blocks8to11, whole, checks}
 use Rattle.slate.specs.declared.Slate.{Slate}
-use Rattle.slate.specs.Slates.{slated}
+use Rattle.slate.specs.Slates.{slated, asking}
 use Rattle.frame.specs.Frames.{ready, placing, offering}
 use Rattle.writer.specs.Given.{orders, lengths8, lengths9, lengths10, room, given}
-use Rattle.promises.specs.Order.{refusals, ofFile, ofWriter, ofOffer}
+use Rattle.promises.specs.Order.{refusals, ofFile, ofWriter, ofOffer, ofWhy}
 
 pub of-file : (s : List ℕ) → refusals (checks s) ≡ ofFile
 unfolding tables shape entries shape1 fields1 fixed2 fields2 fixed5 fields5 fields7 sums names ends blocks1to4 blocks5to7 blocks8to11 whole checks
@@ -24,3 +24,7 @@ of-writer v e n = refl
 pub of-offer : (s : Slate) (marks : List Bool) (size : ℕ) (f : List ℕ) → refusals (offering s marks size f) ≡ ofOffer
 unfolding tables shape entries shape1 fields1 fixed2 fields2 fixed5 fields5 fields7 sums names ends blocks1to4 blocks5to7 blocks8to11 whole checks slated ready placing offering
 of-offer s marks size f = refl
+
+pub of-why : (s : Slate) (f : List ℕ) → refusals (asking s f) ≡ ofWhy
+unfolding tables shape entries shape1 fields1 fixed2 fields2 fixed5 fields5 fields7 sums names ends blocks1to4 blocks5to7 blocks8to11 whole checks slated asking
+of-why s f = refl

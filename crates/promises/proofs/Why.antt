@@ -28,7 +28,7 @@ use Rattle.slate.specs.declared.Compared.{Compared}
 use Rattle.slate.specs.declared.Compared.the-variants.{Agrees, Differs}
 use Rattle.slate.specs.Cut.{heightOf, linesTo}
 use Rattle.slate.specs.Parts.{Sides, sides, further, compareAll, shotParts, cutParts, parts, comparing, isAgrees}
-use Rattle.slate.specs.Slates.{goodSlate, slated, frameSize, matching, paperReason, reasonOf}
+use Rattle.slate.specs.Slates.{goodSlate, slated, frameSize, matching, asking, paperReason, reasonOf}
 use Rattle.slate.proofs.Slate.why.Reads as why
 use Rattle.frame.specs.Records.{pass, noMarks, marked, noneAbove}
 use Rattle.frame.specs.declared.Record.{Record}
@@ -50,7 +50,7 @@ use Rattle.promises.specs.Why.{nine, Disagreement, Accepted, Reasoned, A
 use Rattle.promises.specs.Why as words
 use Rattle.promises.specs.Night.{answerOf}
 use Rattle.promises.proofs.Refusals.{left, refuses-in, none-fine}
-use Rattle.promises.proofs.Demand1.{in-why}
+use Rattle.promises.proofs.Demand1.{in-asking}
 use Rattle.promises.proofs.Runs.{getD-flags}
 use Rattle.tiling.proofs.Lawful.{and}
 use Rattle.promises.proofs.Slated.{good-exactly, match-exactly, mark-at}
@@ -101,25 +101,22 @@ bad-is s h = go (goodSlate s) refl
     go false e = refl
 
 module _ (s : Slate) (f : List ℕ) where
-  abbrev rows : List Row
-  rows = tables (slated s ∷ checks f ∷ [])
-
   -- nothing is refused exactly where slate and file are good
-  both-good : Good s → Accepted f → judge fine rows ≡ fine
-  unfolding slated
-  both-good g a = exactly rows .1 (each-of (slated s ∷ checks f ∷ []) (holds (holds (good-exactly s .1 g) tt) (holds (exactly (checks f) .0 a) tt)))
+  both-good : Good s → Accepted f → judge fine (asking s f) ≡ fine
+  unfolding asking slated
+  both-good g a = exactly (asking s f) .1 (each-of (slated s ∷ checks f ∷ []) (holds (holds (good-exactly s .1 g) tt) (holds (exactly (checks f) .0 a) tt)))
 
-  good-both : judge fine rows ≡ fine → Good s × Accepted f
-  unfolding slated
-  good-both e = let h = each-is (slated s ∷ checks f ∷ []) (exactly rows .0 e) in (good-exactly s .0 (h .0 .0), exactly (checks f) .1 (h .1 .0))
+  good-both : judge fine (asking s f) ≡ fine → Good s × Accepted f
+  unfolding asking slated
+  good-both e = let h = each-is (slated s ∷ checks f ∷ []) (exactly (asking s f) .0 e) in (good-exactly s .0 (h .0 .0), exactly (checks f) .1 (h .1 .0))
 
-  slate-first : (Good s → ⊥) → judge fine rows ≡ refused (turned 13 0 0)
-  unfolding slated tables
-  slate-first h = first-fails rows (turned 13 0 0) .1 (here (bad-is s h))
+  slate-first : (Good s → ⊥) → judge fine (asking s f) ≡ refused (turned 13 0 0)
+  unfolding asking slated tables
+  slate-first h = first-fails (asking s f) (turned 13 0 0) .1 (here (bad-is s h))
 
-  then-file : Good s → (u : Turned) → Own f u → judge fine rows ≡ refused u
-  unfolding slated
-  then-file g u o = first-fails rows u .1 (first-table (slated s ∷ []) (checks f) [] (holds (holds (good-exactly s .1 g) tt) tt) (first-fails (checks f) u .0 o))
+  then-file : Good s → (u : Turned) → Own f u → judge fine (asking s f) ≡ refused u
+  unfolding asking slated
+  then-file g u o = first-fails (asking s f) u .1 (first-table (slated s ∷ []) (checks f) [] (holds (holds (good-exactly s .1 g) tt) tt) (first-fails (checks f) u .0 o))
 
   all-agree : Match s (factsOf f) → comparing s (factsOf f) ≡ Agrees
   all-agree m = agrees-is (comparing s (factsOf f)) (match-exactly s (factsOf f) .1 m)
@@ -139,14 +136,14 @@ module _ (s : Slate) (f : List ℕ) where
   agreed : reasonOf s f ≡ says Agrees → Agreed s f
   unfolding reasonOf
   agreed e =
-      let r = said (judge fine rows) (comparing s (factsOf f)) Agrees e in
+      let r = said (judge fine (asking s f)) (comparing s (factsOf f)) Agrees e in
       let g = good-both (r .0) in
       record { slate = g .0; file = g .1; match = match-exactly s (factsOf f) .0 (ap isAgrees (r .1)) }
 
   differed : {d : Difference} → reasonOf s f ≡ says (Differs d) → Differed s f d
   unfolding reasonOf
   differed {d} e =
-      let r = said (judge fine rows) (comparing s (factsOf f)) (Differs d) e in
+      let r = said (judge fine (asking s f)) (comparing s (factsOf f)) (Differs d) e in
       let g = good-both (r .0) in
       record { slate = g .0; file = g .1; first = subst (λ (ps : List Sides). Disagreement ps d) (nine-are s (factsOf f)) (first-is (parts s (factsOf f)) d (r .1)) }
 
@@ -289,7 +286,7 @@ module _ (κ : _) (a : _) (r : _) (t : _) (p : hsd-why.Post κ a r t) where
   -- what is told of no refusal is none
   not-refused : (n b q : ℕ) → reasonOf (slateIn (a .0)) (now (a .1 .0)) ≡ refuses (turned n b q) → n ≡ 0 → ⊥
   unfolding reasonOf
-  not-refused n b q e z = none-fine n b q (refuses-in (rows (slateIn (a .0)) (now (a .1 .0))) (in-why (slateIn (a .0)) (now (a .1 .0))) (comparing (slateIn (a .0)) (factsOf (now (a .1 .0)))) (turned n b q) e) z
+  not-refused n b q e z = none-fine n b q (refuses-in (asking (slateIn (a .0)) (now (a .1 .0))) (in-asking (slateIn (a .0)) (now (a .1 .0))) (comparing (slateIn (a .0)) (factsOf (now (a .1 .0)))) (turned n b q) e) z
 
   -- no refusal and no part: they agree
   pub agrees-c : r .refusal ≡ 0 → r .part ≡ 0 → Agreed (slateIn (a .0)) (now (a .1 .0))
@@ -347,8 +344,10 @@ answered-c κ a r t p es ef = p .0 ∙ (λ i. shownRuling (offeredC (es i) (now 
 abbrev fresh-c : HsdSlate → RefT (List ℕ) → HsdSlate × (RefT (List ℕ) × (RefT (List ℕ) × (RefT (List ℕ) × Unit {0})))
 fresh-c s file = (
   s,
-  (record { ptr = file .ptr; name = file .name; now = replicate 99 0 },
-  (record { ptr = file .ptr; name = file .name; now = replicate (frameSize (slateIn s)) 65534 }, (file, tt))),
+  (
+    record { ptr = file .ptr; name = file .name; now = replicate 99 0 },
+    (record { ptr = file .ptr; name = file .name; now = replicate (frameSize (slateIn s)) 65534 }, (file, tt)),
+  ),
 )
 
 zero-at : (n i : ℕ) → getD {A = ℕ} (replicate n 0) i 0 ≡ 0
@@ -396,5 +395,5 @@ module _ (κ : _) (a : _) (r : _) (t : _) (p : hsd-why.Post κ a r t) where
   agrees-exactly-c g ok = (
     λ h. never-c (h .0) (h .1),
     λ h. let e = reasons-c κ a r t p .agrees g ok (match-exactly (slateIn (a .0)) (factsOf (now (a .1 .0))) .0 (never-match-c (κ .0) (a .0) (a .1 .0) g ok h)) in
-    (ap (λ (x : HsdWhy). x .refusal) e, ap (λ (x : HsdWhy). x .part) e),
+        (ap (λ (x : HsdWhy). x .refusal) e, ap (λ (x : HsdWhy). x .part) e),
   )

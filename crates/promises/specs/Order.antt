@@ -47,3 +47,7 @@ ofWriter =
 -- an offer: 13, for the slate and for the record, then 14, the file, 15, 16
 abbrev pub ofOffer : List (ℕ × ℕ)
 ofOffer = each 0 (13 ∷ 13 ∷ 14 ∷ []) ++ (ofFile ++ each 0 (15 ∷ 16 ∷ []))
+
+-- why: 13, then the file
+abbrev pub ofWhy : List (ℕ × ℕ)
+ofWhy = each 0 (13 ∷ []) ++ ofFile

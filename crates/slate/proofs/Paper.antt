@@ -5,7 +5,10 @@ use Rattle.rules.proofs.Paper.{refusalOf, refusal-paper}
 use Rattle.slate.specs.declared.Slate.{Slate}
 use Rattle.slate.specs.declared.Slated.{Slated}
 use Rattle.slate.specs.declared.Slated.the-variants.{Made, Refused}
-use Rattle.slate.specs.Slates.{paperSlate}
+use Rattle.slate.specs.declared.Compared.{Compared}
+use Rattle.slate.specs.declared.Reason.{Reason}
+use Rattle.slate.specs.declared.Reason.the-variants as reason
+use Rattle.slate.specs.Slates.{paperSlate, paperReason}
 
 abbrev slated-as : Reply Slate → Slated
 slated-as (says s) = Made s
@@ -18,3 +21,15 @@ slated-back (Refused t) = ap Refused (refusal-paper t)
 
 pub paperSlate-one : (x y : Slated) → paperSlate x ≡ paperSlate y → x ≡ y
 paperSlate-one x y e = sym (slated-back x) ∙ ap slated-as e ∙ slated-back y
+
+abbrev reason-as : Reply Compared → Reason
+reason-as (says c) = reason.Compared c
+reason-as (refuses t) = reason.Refused (refusalOf t)
+
+reason-back : (r : Reason) → reason-as (paperReason r) ≡ r
+unfolding paperReason
+reason-back (reason.Compared c) = refl
+reason-back (reason.Refused t) = ap reason.Refused (refusal-paper t)
+
+pub paperReason-one : (x y : Reason) → paperReason x ≡ paperReason y → x ≡ y
+paperReason-one x y e = sym (reason-back x) ∙ ap reason-as e ∙ reason-back y

@@ -95,6 +95,10 @@ unfoldable pub paperReason : Reason → Reply Compared
 paperReason (reason.Compared c) = says c
 paperReason (reason.Refused t) = refuses (paperOf t)
 
--- the slate's refusal, or else the file's own, or else what comparing the two says
+-- asking why: 13, then the file
+unfoldable pub asking : Slate → List ℕ → List Row
+asking s f = tables (slated s ∷ checks f ∷ [])
+
+-- the first refusal, or what comparing slate and file says
 unfoldable pub reasonOf : Slate → List ℕ → Reply Compared
-reasonOf s f = reply (judge fine (tables (slated s ∷ checks f ∷ []))) (comparing s (factsOf f))
+reasonOf s f = reply (judge fine (asking s f)) (comparing s (factsOf f))

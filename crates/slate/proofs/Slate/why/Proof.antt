@@ -1,17 +1,15 @@
 use mathlib.Core.Path.{_≡_, sym, ap, _∙_}
-use mathlib.Core.List.{[], _∷_}
 use denote.Ref.{now}
-use Rattle.rules.specs.Rules.{paper, fine, judge, tables, reply}
+use Rattle.rules.specs.Rules.{paper, fine, judge, reply}
 use Rattle.rules.proofs.Judge.{tried, table, last}
-use Rattle.accept.specs.Checks.{checks}
-use Rattle.slate.specs.Slates.{slated, paperReason, reasonOf}
+use Rattle.slate.specs.Slates.{asking, paperReason, reasonOf}
 use borrow.Author.Needs.{needs}
 use Rattle.slate.proofs.Slate.why.Statement.{statement}
 use Rattle.slate.proofs.Slate.why.Tie as tie
 
 -- the slate's table, and then the file's
-judged : (c : tie.After-check-file) → let a = c .before .before .before .args in paper (c .check-file .result) ≡ judge fine (tables (slated (a .self) ∷ checks (now (a .file)) ∷ []))
-unfolding paper
+judged : (c : tie.After-check-file) → let a = c .before .before .before .args in paper (c .check-file .result) ≡ judge fine (asking (a .self) (now (a .file)))
+unfolding paper asking
 judged c = tried (table (c .before .check .ensures) (table (c .check-file .ensures) last))
 
 returns : tie.Need-returns
