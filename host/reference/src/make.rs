@@ -150,6 +150,18 @@ impl Recipe {
     }
 }
 
+/// All that are lawful.
+pub fn areas() -> Vec<[u8; 4]> {
+    let mut areas = vec![*b"FLDK"];
+    for (letters, last) in [("JP", 4), ("R3", 4), ("R4", 20), ("R5", 20)] {
+        for number in 1..=last {
+            let text = format!("{letters}{number:02}").into_bytes();
+            areas.push(text.try_into().expect("four letters"));
+        }
+    }
+    areas
+}
+
 fn any_area(random: &mut Random) -> [u8; 4] {
     let text = match random.below(5) {
         0 => "FLDK".to_string(),

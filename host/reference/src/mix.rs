@@ -238,3 +238,14 @@ pub const REFUSALS: [Row; 19] = [
     (CUT, "CUT", &[From(12, 1_463)]),
     (TAIL, "TAIL", &[From(12, 1_463)]),
 ];
+
+/// All of these after one that is told before the file is looked at.
+pub(crate) const fn refusals_after(first: Row) -> [Row; 20] {
+    let mut rows = [first; 20];
+    let mut row = 0;
+    while row < REFUSALS.len() {
+        rows[1 + row] = REFUSALS[row];
+        row += 1;
+    }
+    rows
+}

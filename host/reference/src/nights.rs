@@ -4,7 +4,7 @@
 
 use crate::damage;
 use crate::make::{Recipe, Sample};
-use crate::mix::{large_case, setting, small_case, Case, REFUSALS};
+use crate::mix::{large_case, refusals_after, setting, small_case, Case};
 use crate::night::RUN;
 use crate::random::Random;
 use crate::tally::{Place::At, Row};
@@ -278,12 +278,4 @@ fn plant_entries(sample: &mut Sample, errors: u64, random: &mut Random) {
 }
 
 /// Every refusal of a file that is added, with the places that it can name.
-pub const ADDING: [Row; 20] = {
-    let mut rows: [Row; 20] = [(RUN, "RUN", &[At(0, 0)]); 20];
-    let mut row = 0;
-    while row < REFUSALS.len() {
-        rows[1 + row] = REFUSALS[row];
-        row += 1;
-    }
-    rows
-};
+pub const ADDING: [Row; 20] = refusals_after((RUN, "RUN", &[At(0, 0)]));

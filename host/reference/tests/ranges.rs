@@ -7,7 +7,7 @@ use reference::accept::{
     LENGTH, NAME, NUMBER, ORDER, PACKED, SATELLITE_FIELD, SEGMENT_FIELD, SIZE_FIELD,
     TIMELINE_FIELD,
 };
-use reference::make::{length_width, Recipe, Sample, BASE};
+use reference::make::{areas, length_width, Recipe, Sample, BASE};
 use reference::random::Random;
 use reference::{numbers, Answer, FINE};
 
@@ -183,18 +183,8 @@ fn satellites() {
 }
 
 #[test]
-fn areas() {
-    let mut lawful = vec![*b"FLDK"];
-    for (letters, last) in [("JP", 4), ("R3", 4), ("R4", 20), ("R5", 20)] {
-        for number in 1..=last {
-            lawful.push(
-                format!("{letters}{number:02}")
-                    .into_bytes()
-                    .try_into()
-                    .unwrap(),
-            );
-        }
-    }
+fn every_area() {
+    let lawful = areas();
     assert_eq!(lawful.len(), 49);
     let mut tried = lawful.clone();
     for first in *b"FJRfjr HN0" {
