@@ -1,8 +1,8 @@
 //! A second opinion on which satellite files are accepted and which field of the others is at fault, what
 //! their quality flag says, which headers are read and written, what frames show, which number a shot has
-//! on the film, which reels are opened and written and what a night's files add up to, from documents 01
-//! and 02 alone, and the inputs on which it is compared with the proved library and with what the programs
-//! of cases must print.
+//! on the film, which reels are opened and written, what a night's files add up to and why a file is not
+//! one of a slate's, from documents 01 and 02 alone, and the inputs on which it is compared with the proved
+//! library and with what the programs of cases must print.
 
 pub mod accept;
 pub mod assemble;
@@ -26,6 +26,8 @@ pub mod spoken;
 pub mod takes;
 pub mod tally;
 pub mod values;
+pub mod why;
+pub mod whys;
 
 pub use accept::{accept, numbers, Answer, Facts, Refusal, FINE};
 pub use values::Values;

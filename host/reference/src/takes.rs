@@ -58,7 +58,7 @@ impl Takes {
 pub const EVERY_ORDER: &str = "files in every order";
 
 /// A small shot; its segments differ from it in number, first line, byte order and entries.
-fn any_shot(random: &mut Random) -> Recipe {
+pub(crate) fn any_shot(random: &mut Random) -> Recipe {
     let (total, lines) = match random.below(8) {
         0 => (random.within(7, 99), 1),
         1 => (1, random.within(1, 5)),
@@ -100,13 +100,13 @@ fn segment(shot: &Recipe, number: u64, random: &mut Random) -> Recipe {
     }
 }
 
-fn any_segment(shot: &Recipe, random: &mut Random) -> Recipe {
+pub(crate) fn any_segment(shot: &Recipe, random: &mut Random) -> Recipe {
     let number = random.within(1, shot.total);
     segment(shot, number, random)
 }
 
 /// A good file that differs from a segment of the shot in one thing, hardly ever in none.
-fn stray(shot: &Recipe, random: &mut Random) -> Recipe {
+pub(crate) fn stray(shot: &Recipe, random: &mut Random) -> Recipe {
     let other = Recipe::small(random);
     let mut stray = any_segment(shot, random);
     match random.below(10) {
