@@ -14,6 +14,7 @@
      6  frame number: eight bytes each, the first shot's day and timeline and the shot's (their low 32 and 16 bits);
         the answer is an HsdFrameNumber as it stands in memory.
      7  night: an HsdRun as it stands in memory, then the file; the answer is an HsdNight as it stands in memory.
+     8  why: an HsdSlate as it stands in memory, then the file; the answer is an HsdWhy as it stands in memory.
    A verdict is an HsdAnswer in six bytes: refusal, block, and four for the offset with the lowest first. A question of
    another number, with bytes that are too few, or with bytes that have no meaning behind those of 0, 5 and 6 ends the
    bridge with status 1. Built with the kit's own compiler, which has no headers: what is used of C is
@@ -79,6 +80,12 @@ typedef struct HsdNight {
     HsdRun run;
 } HsdNight;
 
+typedef struct HsdWhy {
+    u8 refusal, block, part;
+    u32 offset;
+    u64 slate, file;
+} HsdWhy;
+
 HsdFile hsd_accept(const u8 *file, u64 length);
 HsdQuality hsd_quality(u8 quality);
 HsdFrameNumber hsd_frame_number(u32 first_day, u16 first_timeline, u32 day, u16 timeline);
@@ -95,6 +102,7 @@ HsdAnswer hsd_reel_write(const u8 *files, u64 files_length, const u32 *lengths, 
 HsdAnswer hsd_reel_seal(const u8 *files, u64 files_length, const u32 *lengths, u64 lengths_length, u8 *out,
                         u64 out_length);
 HsdNight hsd_night_add(HsdRun run, const u8 *file, u64 file_length);
+HsdWhy hsd_why(HsdSlate slate, const u8 *file, u64 file_length);
 
 struct timespec { long seconds, nanoseconds; };
 int clock_gettime(int clock, struct timespec *now);
@@ -368,6 +376,14 @@ static void ask_night(Rest rest)
     answer(&told, sizeof told);
 }
 
+static void ask_why(Rest rest)
+{
+    HsdSlate slate;
+    memcpy(&slate, next(&rest, sizeof slate), sizeof slate);
+    HsdWhy told = hsd_why(slate, rest.bytes, rest.length);
+    answer(&told, sizeof told);
+}
+
 /* hsd_reel_write or hsd_reel_seal. */
 typedef HsdAnswer Writer(const u8 *, u64, const u32 *, u64, u8 *, u64);
 
@@ -389,7 +405,7 @@ static void ask_writer(Rest rest, Writer *writer)
 /* Questions have numbers of their own: the length's two top bits have no more kinds to give. */
 static void reply(u8 *request, u64 length)
 {
-    enum { QUALITY, REEL, PART, WRITE, SEAL, TRAILER, FRAME_NUMBER, NIGHT };
+    enum { QUALITY, REEL, PART, WRITE, SEAL, TRAILER, FRAME_NUMBER, NIGHT, WHY };
     Rest rest = { request, length };
     switch (next_number(&rest)) {
     case QUALITY: ask_quality(rest); break;
@@ -400,6 +416,7 @@ static void reply(u8 *request, u64 length)
     case TRAILER: ask_trailer(rest); break;
     case FRAME_NUMBER: ask_frame_number(rest); break;
     case NIGHT: ask_night(rest); break;
+    case WHY: ask_why(rest); break;
     default: exit(1);
     }
 }

@@ -191,7 +191,7 @@ fn write_counts(counts: &[u16], bytes: &mut Vec<u8>) {
 }
 
 /// An HsdSlate as it stands in memory.
-fn slate_bytes(slate: &Slate) -> [u8; 20] {
+pub(crate) fn slate_bytes(slate: &Slate) -> [u8; 20] {
     let mut bytes = [0; 20];
     bytes[0] = slate.satellite;
     bytes[1] = slate.total;

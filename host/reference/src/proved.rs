@@ -1,11 +1,12 @@
-//! The proved library's acceptance, marks, film frame numbers, assembly, reels and night totals, asked over the bridge,
-//! and the comparison of an acceptance with the reference's.
+//! The proved library's acceptance, marks, film frame numbers, assembly, reels, night totals and why a file is not one of a
+//! slate's, asked over the bridge, and the comparison of an acceptance with the reference's.
 
 use std::io::{self, BufReader, BufWriter, Read, Write};
 use std::process::{Child, ChildStdin, ChildStdout, Command, Stdio};
 
 use crate::accept::{numbers, Answer, Facts, Refusal};
-use crate::histories::History;
+use crate::assemble::Slate;
+use crate::histories::{slate_bytes, History};
 use crate::night::Run;
 
 /// What `hsd_accept` gives back. 0 is accepted, with the offset 0; on a refusal everything but refusal, block and offset
@@ -137,6 +138,11 @@ impl Requests {
         self.question(7, &[&totals, &accepted, &refused, &[0xaa; 4], file])
     }
 
+    /// Asks why a file is not one of a slate's, question 8.
+    pub fn ask_why(&mut self, slate: &Slate, file: &[u8]) -> io::Result<()> {
+        self.question(8, &[&slate_bytes(slate), file])
+    }
+
     fn ask_writer(
         &mut self,
         question: u64,
@@ -238,6 +244,13 @@ impl Answers {
             refused: std::array::from_fn(|number| four(&b, 60 + 4 * number)),
         };
         Ok(((b[0], b[1], four(&b, 4)), eight(&b, 8) as i64, run))
+    }
+
+    /// The members of an `HsdWhy`: refusal, block and offset, the part's number, and its value for the slate and for the
+    /// file.
+    pub fn next_why(&mut self) -> io::Result<(Answer, u8, u64, u64)> {
+        let b: [u8; 24] = self.next_bytes()?;
+        Ok(((b[0], b[1], four(&b, 4)), b[2], eight(&b, 8), eight(&b, 16)))
     }
 
     /// So many bytes of a history's answer.
