@@ -75,6 +75,20 @@ enum {
     HSD_NOT_KNOWN = 2 /* the flag is not valid: neither yes nor no */
 };
 
+/* In which part a file is not of a slate, in the order in which they are looked at. */
+enum {
+    HSD_WHY_AGREES = 0, /* in none */
+    HSD_WHY_SATELLITE = 1,
+    HSD_WHY_DAY = 2,
+    HSD_WHY_TIMELINE = 3,
+    HSD_WHY_BAND = 4,
+    HSD_WHY_AREA = 5,
+    HSD_WHY_COLUMNS = 6,
+    HSD_WHY_TOTAL = 7, /* of the segments */
+    HSD_WHY_LINES = 8, /* of the segment */
+    HSD_WHY_FIRST_LINE = 9
+};
+
 /* How many marks a record has, whatever the slate. */
 enum { HSD_MARKS = 99 };
 
@@ -196,6 +210,20 @@ HsdAnswer hsd_offer(HsdSlate slate, uint8_t *marks, size_t marks_length, uint16_
  * than a line, or an out shorter than a line. */
 size_t hsd_line(HsdSlate slate, const uint8_t *marks, size_t marks_length, const uint16_t *frame, size_t frame_length,
                 const uint16_t *leader, size_t leader_length, uint16_t line, uint16_t *out, size_t out_length);
+
+typedef struct HsdWhy {
+    uint8_t refusal; /* HSD_FINE; HSD_SLATE, told before the file is looked at; or what hsd_accept says of a refused file */
+    uint8_t block;   /* of a file's refusal; else 0 */
+    uint8_t part;    /* HSD_WHY_AGREES, or the first part in which the two differ: all those before it agree */
+    uint32_t offset; /* of a file's refusal, as in HsdFile; else 0 */
+    uint64_t slate;  /* what the slate says of that part, as in HsdSlate: of the lines, those of each segment; of the first line,
+                        where the segment of the file's number begins, 1 + (number - 1) x lines; 0 for HSD_WHY_AGREES */
+    uint64_t file;   /* what the file says of it, as in HsdFile; 0 for HSD_WHY_AGREES */
+} HsdWhy;
+
+/* Why a file is not one of the slate's. Of a good slate and an accepted file HSD_WHY_AGREES is said exactly when hsd_offer
+ * answers HSD_OTHER_SHOT for no record and no frame. */
+HsdWhy hsd_why(HsdSlate slate, const uint8_t *file, size_t file_length);
 
 /* A reel is 1 to 255 whole files end to end and then a trailer, all little-endian: for each file its offset and length (4
  * bytes each), the number of files (1 byte), the offset of the trailer's first byte (4 bytes), and the letters REEL. The
