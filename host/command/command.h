@@ -18,6 +18,7 @@ int list(int count, char **words);
 int quality(int count, char **words);
 int night(int count, char **words);
 int frame(int count, char **words);
+int why(int count, char **words);
 int reading(int count, char **words);
 int reel(int count, char **words);
 
@@ -44,8 +45,17 @@ bool add_file(const char *name, File *file);
 /* Room for so many bytes, or errno says why not. */
 bool make_room(File *file, size_t room);
 
-/* Judges each file that the words name and has a line said about it, of NULL where it cannot be read; the worst status. */
-int each_file(int count, char **words, void (*say_line)(const char *name, const HsdFile *found));
+/* What is done with a file, and its status. The file is NULL where it cannot be read, which has been complained of. */
+typedef int Look(const char *name, const File *file, void *with);
+
+/* Reads the files in the order given, one at a time, and has each looked at; the worst status. */
+int each_file(int count, char **names, bool progress, Look *look, void *with);
+
+/* What is said about a file that was judged, of NULL where it cannot be read. */
+typedef void SayLine(const char *name, const HsdFile *found);
+
+/* Judges each file that the words name and has a line said about it; the worst status. */
+int each_judged(int count, char **words, SayLine *say_line);
 
 /* The listing's line about a file, which is empty for NULL. */
 void say_listed(const char *name, const HsdFile *found);
@@ -73,8 +83,17 @@ typedef struct Picture {
     const uint16_t *leader;
 } Picture;
 
-bool parse_slate(const char *text, HsdSlate *slate);
 bool write_picture(const char *name, Picture picture, bool progress);
+
+/* Reads a slate, and complains of one that is not good. */
+bool read_slate(const char *text, HsdSlate *slate);
+
+/* The date of a day of 2000 to 2099 as a slate has it: 20150707. */
+unsigned date_of(uint32_t day);
+
+/* An area's letters, and the end. */
+enum { LETTERS = 5 };
+void put_letters(uint32_t area, char letters[LETTERS]);
 
 /* An output: what it is filled with, and by whom. The function that fills it is told whether to show progress, which it is
    not where that would stand within the output. */

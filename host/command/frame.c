@@ -34,20 +34,6 @@ static bool parse_wish(int count, char **words, Wish *wish)
     return wish->slate && wish->out && optind < count;
 }
 
-/* What is wrong with a slate, or NULL. Asked to open a frame of no counts, the library still looks at the slate first. */
-static const char *slate_fault(const char *text, HsdSlate *slate)
-{
-    uint8_t marks[HSD_MARKS];
-    uint16_t no_counts[1];
-    if (!parse_slate(text, slate))
-        return "not a slate, as H08,20150707,0200,13,FLDK,5500,10,550";
-    if (slate->day == 0)
-        return "not a real date of 2000 to 2099";
-    if (hsd_open(*slate, marks, HSD_MARKS, no_counts, 0).refusal == HSD_SLATE)
-        return "refused 13 SLATE, block 0";
-    return NULL;
-}
-
 /* Of a good slate. */
 static bool open_frame(Frame *frame)
 {
@@ -61,21 +47,20 @@ static bool open_frame(Frame *frame)
     return true;
 }
 
-/* Whether the file could be read; what the library answers is said. */
-static bool offer_file(Frame *frame, const char *name)
+/* What the library answers is said; the record alone tells whether all is well in the end. */
+static int offer_file(const char *name, const File *file, void *with)
 {
-    File file;
-    if (!open_file(name, &file))
-        return false;
+    Frame *frame = with;
+    if (!file)
+        return UNUSABLE;
     HsdAnswer answer =
-        hsd_offer(frame->slate, frame->marks, HSD_MARKS, frame->counts, frame->length, file.bytes, file.length);
-    unsigned number = hsd_accept(file.bytes, file.length).number;
-    close_file(&file);
+        hsd_offer(frame->slate, frame->marks, HSD_MARKS, frame->counts, frame->length, file->bytes, file->length);
+    unsigned number = hsd_accept(file->bytes, file->length).number;
     if (answer.refusal)
         say_refused(name, answer);
     else
         say("%s: placed %u of %u\n", shown(name), number, frame->slate.total);
-    return true;
+    return GOOD;
 }
 
 static unsigned tally(const Frame *frame)
@@ -107,17 +92,12 @@ static void make_leader(HsdSlate slate, bool plain, unsigned count, uint16_t *le
 /* Offers the files, then writes the picture; the exit status. */
 static int fill(Frame *frame, const Wish *wish, const uint16_t *leader, int count, char **names)
 {
-    bool readable = true;
-    for (int i = 0; i < count; i++) {
-        readable = offer_file(frame, names[i]) && readable;
-        if (wish->progress)
-            show_progress("file", (unsigned)i + 1, (unsigned)count);
-    }
+    int worst = each_file(count, names, wish->progress, offer_file, frame);
     say_record(frame);
     if (!write_picture(wish->out, (Picture){frame, leader}, wish->progress))
         return UNWRITTEN;
-    if (!readable)
-        return UNUSABLE;
+    if (worst != GOOD)
+        return worst;
     return tally(frame) == frame->slate.total ? GOOD : REFUSED;
 }
 
@@ -135,12 +115,7 @@ int frame(int count, char **words)
         complain(wish.leader, "not a count of 0 to 65535");
         return UNUSABLE;
     }
-    const char *fault = slate_fault(wish.slate, &frame.slate);
-    if (fault) {
-        complain(wish.slate, fault);
-        return UNUSABLE;
-    }
-    if (!open_frame(&frame))
+    if (!read_slate(wish.slate, &frame.slate) || !open_frame(&frame))
         return UNUSABLE;
     make_leader(frame.slate, wish.leader, leader_count, leader);
     int status = fill(&frame, &wish, leader, count - optind, words + optind);

@@ -12,12 +12,13 @@ static const char overview[] =
     "panulimbe quality FILE..                              what quality flag 1 of each file says\n"
     "panulimbe night FILE..                                what all counts of the files read as, in totals\n"
     "panulimbe frame --slate SLATE -o PICTURE FILE..       a frame put together from its segments\n"
+    "panulimbe why --slate SLATE FILE..                    the first part in which a file is not of a slate\n"
     "panulimbe reading FILE LINE COLUMN                    what one count reads as\n"
     "panulimbe reel write -o REEL FILE..                   whole files in one reel\n"
     "panulimbe reel list REEL                              one line about each file of a reel\n"
     "panulimbe reel extract REEL [-d FOLDER] [NUMBER..]    the files of a reel, or some of them\n"
     "\n"
-    "'panulimbe SUBCOMMAND --help' says more. Exit status: 0 all is well; 1 something was refused or is\n"
+    "'panulimbe SUBCOMMAND --help' says more. Exit status: 0 all is well; 1 something was refused, differs or is\n"
     "missing; 2 wrong usage, or a file that cannot be read or changed meanwhile; 3 an output that cannot be\n"
     "written, or is there already and must not be replaced.\n";
 
@@ -71,13 +72,16 @@ static const char night_help[] =
     "Exit status: 0 all are accepted; 1 some file was refused; 2 wrong usage, or some file cannot be read or\n"
     "changed meanwhile; 3 standard output cannot be written.\n";
 
+#define SLATE_OPTION                                                                                                   \
+    "  --slate SLATE      satellite, date, timeline, band, area, columns, segments, lines per segment, as\n"            \
+    "                     H08,20150707,0200,13,FLDK,5500,10,550\n"
+
 static const char frame_help[] =
     "panulimbe frame --slate SLATE -o PICTURE [--leader COUNT] [--progress] FILE..\n"
     "\n"
     "Offers the files, in the order given, to the frame that the slate names, says what became of each, and\n"
     "writes the frame as a 16-bit PGM picture.\n"
-    "  --slate SLATE      satellite, date, timeline, band, area, columns, segments, lines per segment, as\n"
-    "                     H08,20150707,0200,13,FLDK,5500,10,550\n"
+    SLATE_OPTION
     "  -o, --output PICTURE   white is the greatest count of the band; error pixels, counts outside the scan\n"
     "                     and counts over range are black. A file of this name appears, or is replaced, when\n"
     "                     the picture is whole; a device, a pipe or /dev/stdout is written as it is\n"
@@ -88,6 +92,24 @@ static const char frame_help[] =
     "Exit status: 0 all segments are in, whatever else was offered and refused; 1 some are missing; 2 wrong\n"
     "usage, a bad slate, a picture that is one of the files, or a file that cannot be read or changed\n"
     "meanwhile; 3 standard output or the picture cannot be written.\n";
+
+static const char why_help[] =
+    "panulimbe why --slate SLATE FILE..\n"
+    "\n"
+    "Prints one line about each file, in the order given: that it is a segment of the slate's frame, or the\n"
+    "first part in which it is not, with what the slate and the file say of it, or why it is refused:\n"
+    "  NAME: agrees\n"
+    "  NAME: timeline: slate 0200, file 0210\n"
+    "  NAME: day: slate 57210 (20150707), file 57211 (20150708)\n"
+    "  NAME: refused 33 timeline, block 1, byte 44\n"
+    "The parts, in this order: satellite, day, timeline, band, area, columns, segment total, lines, first line.\n"
+    "Those before the one that is named agree. On the slate's side the first line is where the segment of the\n"
+    "file's number begins. A file that cannot be read, or changed while it was read, has no line; standard error\n"
+    "says which and why.\n"
+    SLATE_OPTION
+    "\n"
+    "Exit status: 0 all agree; 1 some file does not, or is refused; 2 wrong usage, a bad slate, or some file\n"
+    "cannot be read or changed meanwhile; 3 standard output cannot be written.\n";
 
 static const char reading_help[] =
     "panulimbe reading FILE LINE COLUMN\n"
@@ -136,6 +158,7 @@ static const struct {
     {"quality", quality_help, 1, quality},
     {"night", night_help, 1, night},
     {"frame", frame_help, 1, frame},
+    {"why", why_help, 1, why},
     {"reading", reading_help, 1, reading},
     {"reel", reel_help, 2, reel},
 };

@@ -18,13 +18,12 @@ static bool parse_wish(int count, char **words, bool *progress)
 }
 
 /* Adds a file to the run and says what became of it. One that cannot be read has no line and is in no total. */
-static int add_to(HsdRun *run, const char *name)
+static int add_to(const char *name, const File *file, void *with)
 {
-    File file;
-    if (!open_file(name, &file))
+    HsdRun *run = with;
+    if (!file)
         return UNUSABLE;
-    HsdNight night = hsd_night_add(*run, file.bytes, file.length);
-    close_file(&file);
+    HsdNight night = hsd_night_add(*run, file->bytes, file->length);
     *run = night.run;
     if (night.refusal) {
         say_refused(name, (HsdAnswer){.refusal = night.refusal, .block = night.block, .offset = night.offset});
@@ -51,17 +50,11 @@ int night(int count, char **words)
 {
     bool progress = false;
     HsdRun run = {0};
-    int worst = GOOD;
     if (!parse_wish(count, words, &progress))
         return misused("night", "at least one file");
     if (!spares_inputs(NULL, count - optind, words + optind))
         return UNUSABLE;
-    for (int i = optind; i < count; i++) {
-        int status = add_to(&run, words[i]);
-        worst = status > worst ? status : worst;
-        if (progress)
-            show_progress("file", (unsigned)(i - optind) + 1, (unsigned)(count - optind));
-    }
+    int worst = each_file(count - optind, words + optind, progress, add_to, &run);
     say_totals(&run);
     return worst;
 }

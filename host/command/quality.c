@@ -28,5 +28,5 @@ static void say_line(const char *name, const HsdFile *f)
 
 int quality(int count, char **words)
 {
-    return each_file(count, words, say_line);
+    return each_judged(count, words, say_line);
 }

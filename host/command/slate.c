@@ -38,19 +38,19 @@ static uint32_t letters(Rest *rest)
     return value;
 }
 
-static uint32_t date(Rest *rest)
+/* The day of a date, or 0 if it is not a real one of 2000 to 2099. */
+static uint32_t day_of(unsigned date)
 {
-    unsigned value = number(rest, 8, 8, 99999999);
-    return hsd_day((uint16_t)(value / 10000), (uint8_t)(value / 100 % 100), (uint8_t)(value % 100));
+    return hsd_day((uint16_t)(date / 10000), (uint8_t)(date / 100 % 100), (uint8_t)(date % 100));
 }
 
-bool parse_slate(const char *text, HsdSlate *slate)
+static bool parse_slate(const char *text, HsdSlate *slate)
 {
     Rest rest = {text, text[0] == 'H'};
     rest.at += rest.good;
     slate->satellite = (uint8_t)number(&rest, 2, 2, 99);
     comma(&rest);
-    slate->day = date(&rest);
+    slate->day = day_of(number(&rest, 8, 8, 99999999));
     comma(&rest);
     slate->timeline = (uint16_t)number(&rest, 4, 4, 9999);
     comma(&rest);
@@ -64,4 +64,49 @@ bool parse_slate(const char *text, HsdSlate *slate)
     comma(&rest);
     slate->lines = (uint16_t)number(&rest, 1, 5, 65535);
     return rest.good && *rest.at == '\0';
+}
+
+/* What is wrong with a slate, or NULL. Asked to open a frame of no counts, the library still looks at the slate first. */
+static const char *slate_fault(const char *text, HsdSlate *slate)
+{
+    uint8_t marks[HSD_MARKS];
+    uint16_t no_counts[1];
+    if (!parse_slate(text, slate))
+        return "not a slate, as H08,20150707,0200,13,FLDK,5500,10,550";
+    if (slate->day == 0)
+        return "not a real date of 2000 to 2099";
+    if (hsd_open(*slate, marks, HSD_MARKS, no_counts, 0).refusal == HSD_SLATE)
+        return "refused 13 SLATE, block 0";
+    return NULL;
+}
+
+bool read_slate(const char *text, HsdSlate *slate)
+{
+    const char *fault = slate_fault(text, slate);
+    if (fault)
+        complain(text, fault);
+    return !fault;
+}
+
+static bool is_reached(unsigned date, uint32_t day)
+{
+    uint32_t its_day = day_of(date);
+    return its_day != 0 && its_day <= day;
+}
+
+/* On by years, by months and by days: the library alone knows which dates there are. */
+unsigned date_of(uint32_t day)
+{
+    unsigned date = 20000101;
+    for (unsigned step = 10000; step > 0; step /= 100)
+        while (is_reached(date + step, day))
+            date += step;
+    return date;
+}
+
+void put_letters(uint32_t area, char letters[LETTERS])
+{
+    for (int i = 0; i < LETTERS - 1; i++)
+        letters[i] = (char)(area >> (24 - 8 * i) & 255);
+    letters[LETTERS - 1] = '\0';
 }
