@@ -88,6 +88,15 @@ static inline void put_block(File *file, unsigned block)
         put_value(file, entries_of(block, file->plan.entries[block - 8]));
 }
 
+/* Columns and lines, and with them the file's length. */
+static inline void put_size(File *file, uint32_t columns, uint32_t lines)
+{
+    put_value(file, (Value){2, 2, 5, columns, NULL});
+    put_value(file, (Value){2, 2, 7, lines, NULL});
+    put_value(file, (Value){1, 4, 74, 2 * columns * lines, NULL});
+    file->length = start(&file->plan, COUNTS) + 2 * (size_t)columns * lines;
+}
+
 /* Segment 1 of 2 of the full disk in band 13 on 2015-07-07 at 02:00. */
 static inline void make_good(File *file, Plan plan)
 {

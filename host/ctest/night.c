@@ -54,14 +54,6 @@ static void put_band(size_t band)
     put_value(&file, (Value){1, 3, 144, 0, bands[band].resolution});
 }
 
-static void put_size(uint32_t columns, uint32_t lines)
-{
-    put_value(&file, (Value){2, 2, 5, columns, NULL});
-    put_value(&file, (Value){2, 2, 7, lines, NULL});
-    put_value(&file, (Value){1, 4, 74, 2 * columns * lines, NULL});
-    file.length = start(&file.plan, COUNTS) + 2 * (size_t)columns * lines;
-}
-
 /* Two bytes at a place of the file, in its byte order. */
 static void put_two(size_t at, unsigned number)
 {
@@ -245,7 +237,7 @@ static void check_every_count(void)
         const uint64_t limit = (uint64_t)1 << bands[i / 2].bits, over = 65534 - limit;
         make_plain(i % 2);
         put_band(i / 2);
-        put_size(256, 256);
+        put_size(&file, 256, 256);
         for (size_t count = 0; count < 65536; count++)
             put_two(start(&file.plan, COUNTS) + 2 * count, (unsigned)count);
         CHECK(gives(of(limit, 1, 1, over, 0), 1));
@@ -263,7 +255,7 @@ static void check_alike(void)
     for (size_t i = 0; i < 2 * KINDS; i++) {
         HsdRun totals = {0};
         make_plain(i % 2);
-        put_size(256, 256);
+        put_size(&file, 256, 256);
         if (i / 2 == HSD_UNCALIBRATED)
             put_calibration((double)NAN, 0);
         for (size_t place = 0; place < 65536; place++)
@@ -282,7 +274,7 @@ static void check_sizes(void)
     for (size_t i = 0; i < 2 * sizeof sizes / sizeof *sizes; i++) {
         make_plain(i % 2);
         put_band(i % BANDS);
-        put_size(sizes[i / 2][0], sizes[i / 2][1]);
+        put_size(&file, sizes[i / 2][0], sizes[i / 2][1]);
         put_calibration(i % 5 ? 0.5 : 0x1p1014, -1);
         for (size_t at = start(&file.plan, COUNTS); at < file.length; at += 2)
             put_two(at, any_below(8) ? any_below(1U << any_below(17)) : 65534 + any_below(2));
@@ -465,25 +457,16 @@ static void check_refused_file(HsdRun *run, const char *name, HsdAnswer answer)
     *run = hsd_night_add(*run, file.bytes, file.length).run;
 }
 
-/* A line for each says its answer, those of one byte order first. All of them, in one run. */
+/* All of them, in one run. */
 static void check_refused(void)
 {
-    static char lines[400][32];
-    FILE *from = open_sample("refused.lines");
-    size_t all = 0;
-    while (from && all < 400 && fgets(lines[all], sizeof *lines, from))
-        all++;
-    if (from)
-        fclose(from);
-    CHECK(all > 100 && all < 400);
+    static Refused all[REFUSED_ROOM];
+    const size_t count = refused_samples(all);
     HsdRun run = of(1, 2, 3, 4, 5), wanted = run;
-    for (size_t i = 0; i < all; i++) {
-        unsigned refusal = 0, block = 0, offset = 0;
-        char name[48];
-        CHECK(sscanf(lines[i], "NO %u %u %u", &refusal, &block, &offset) == 3 && refusal < PLACES);
-        snprintf(name, sizeof name, "refused-%zu-%03zu", i / (all / 2), i % (all / 2));
-        check_refused_file(&run, name, (HsdAnswer){(uint8_t)refusal, (uint8_t)block, offset});
-        wanted.refused[refusal]++;
+    for (size_t i = 0; i < count; i++) {
+        CHECK(all[i].answer.refusal < PLACES);
+        check_refused_file(&run, all[i].name, all[i].answer);
+        wanted.refused[all[i].answer.refusal]++;
     }
     CHECK(is_same_run(&run, &wanted));
 }
@@ -492,7 +475,7 @@ static void check_refused(void)
 static void check_greatest(void)
 {
     make_plain(0);
-    put_size(WIDEST, WIDEST);
+    put_size(&file, WIDEST, WIDEST);
     const size_t header = start(&file.plan, COUNTS), room = (file.length + GUARD - 1) / GUARD * GUARD;
     uint8_t *memory = mmap(NULL, room + GUARD, PROT_READ | PROT_WRITE, MAP_PRIVATE | MAP_ANONYMOUS | MAP_NORESERVE, -1, 0);
     CHECK(memory != MAP_FAILED && mprotect(memory + room, GUARD, PROT_NONE) == 0);

@@ -450,30 +450,12 @@ static void check_refused_file(const char *name, uint8_t refusal, uint8_t block,
     CHECK(gives(hsd_reel_seal, REEL_ROOM, refusal, block, offset));
 }
 
-static unsigned count_lines(FILE *from)
-{
-    unsigned lines = 0;
-    for (int byte; (byte = fgetc(from)) != EOF;)
-        lines += byte == '\n';
-    rewind(from);
-    return lines;
-}
-
-/* All of them: a line for each says its answer, those of one byte order first. */
 static void check_refused(void)
 {
-    FILE *from = open_sample("refused.lines");
-    unsigned lines = from ? count_lines(from) : 0;
-    CHECK(lines > 100);
-    for (unsigned i = 0; i < lines; i++) {
-        unsigned refusal = 0, block = 0, offset = 0;
-        char name[32];
-        CHECK(fscanf(from, "NO %u %u %u\n", &refusal, &block, &offset) == 3);
-        snprintf(name, sizeof name, "refused-%u-%03u", i / (lines / 2), i % (lines / 2));
-        check_refused_file(name, (uint8_t)refusal, (uint8_t)block, offset);
-    }
-    if (from)
-        fclose(from);
+    static Refused all[REFUSED_ROOM];
+    const size_t count = refused_samples(all);
+    for (size_t i = 0; i < count; i++)
+        check_refused_file(all[i].name, all[i].answer.refusal, all[i].answer.block, all[i].answer.offset);
 }
 
 static void check_trailer_lengths(void)

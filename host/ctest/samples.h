@@ -36,4 +36,28 @@ static inline Bytes sample(const char *name)
     return file;
 }
 
+/* A refused file, and what is answered of it. */
+typedef struct Refused {
+    char name[64];
+    HsdAnswer answer;
+} Refused;
+
+enum { REFUSED_ROOM = 400 };
+
+/* All of them: a line for each says its answer, those of one byte order first. How many there are. */
+static inline size_t refused_samples(Refused all[REFUSED_ROOM])
+{
+    unsigned refusal, block, offset;
+    size_t count = 0;
+    FILE *from = open_sample("refused.lines");
+    while (from && count < REFUSED_ROOM && fscanf(from, "NO %u %u %u\n", &refusal, &block, &offset) == 3)
+        all[count++].answer = (HsdAnswer){(uint8_t)refusal, (uint8_t)block, offset};
+    CHECK(from && feof(from) && count > 100);
+    if (from)
+        fclose(from);
+    for (size_t i = 0; i < count; i++)
+        snprintf(all[i].name, sizeof all->name, "refused-%zu-%03zu", i / (count / 2), i % (count / 2));
+    return count;
+}
+
 #endif
