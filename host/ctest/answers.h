@@ -29,6 +29,13 @@ static inline bool is_night(HsdNight answer, uint8_t refusal, uint8_t block, uin
            is_same_run(&answer.run, run);
 }
 
+/* In every member; there is padding between them. */
+static inline bool is_same_why(HsdWhy one, HsdWhy other)
+{
+    return one.refusal == other.refusal && one.block == other.block && one.part == other.part && one.offset == other.offset &&
+           one.slate == other.slate && one.file == other.file;
+}
+
 static inline bool is_zero(double number)
 {
     static const double zero;

@@ -65,6 +65,14 @@ AT(HsdAnswer, block, 1, 1);
 AT(HsdAnswer, offset, 4, 4);
 WHOLE(HsdAnswer, 8, 4);
 
+AT(HsdWhy, refusal, 0, 1);
+AT(HsdWhy, block, 1, 1);
+AT(HsdWhy, part, 2, 1);
+AT(HsdWhy, offset, 4, 4);
+AT(HsdWhy, slate, 8, 8);
+AT(HsdWhy, file, 16, 8);
+WHOLE(HsdWhy, 24, 8);
+
 AT(HsdReel, refusal, 0, 1);
 AT(HsdReel, block, 1, 1);
 AT(HsdReel, files, 2, 2);
@@ -133,6 +141,17 @@ NUMBERED(HSD_UNCALIBRATED, 4);
 NUMBERED(HSD_NO, 0);
 NUMBERED(HSD_YES, 1);
 NUMBERED(HSD_NOT_KNOWN, 2);
+
+NUMBERED(HSD_WHY_AGREES, 0);
+NUMBERED(HSD_WHY_SATELLITE, 1);
+NUMBERED(HSD_WHY_DAY, 2);
+NUMBERED(HSD_WHY_TIMELINE, 3);
+NUMBERED(HSD_WHY_BAND, 4);
+NUMBERED(HSD_WHY_AREA, 5);
+NUMBERED(HSD_WHY_COLUMNS, 6);
+NUMBERED(HSD_WHY_TOTAL, 7);
+NUMBERED(HSD_WHY_LINES, 8);
+NUMBERED(HSD_WHY_FIRST_LINE, 9);
 
 NUMBERED(HSD_MARKS, 99);
 
