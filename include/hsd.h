@@ -222,7 +222,7 @@ typedef struct HsdWhy {
 } HsdWhy;
 
 /* Why a file is not one of the slate's. Of a good slate and an accepted file HSD_WHY_AGREES is said exactly when hsd_offer
- * answers HSD_OTHER_SHOT for no record and no frame. */
+ * answers HSD_OTHER_SHOT for no record and no frame. Look at the refusal first: with one the part is 0, too. */
 HsdWhy hsd_why(HsdSlate slate, const uint8_t *file, size_t file_length);
 
 /* A reel is 1 to 255 whole files end to end and then a trailer, all little-endian: for each file its offset and length (4
