@@ -21,9 +21,10 @@ use Rattle.slate.specs.Cut.{heightOf, linesTo}
 use Rattle.slate.specs.Slates.{goodSlate, slated, sizeOf, startOf, frameSize, matching}
 use Rattle.slate.proofs.Cuts.{lines-none, lines-more, good}
 use Rattle.frame.specs.Counts.{countsOf}
-use Rattle.frame.specs.Records.{marked, mark, pass, noneAbove}
+use Rattle.frame.specs.Records.{marked, mark, noneAbove}
 use Rattle.frame.specs.Frames.{opening, openFrame, unwritten, ready, placing, offering, offered, putAt, recordAfter, frameAfter}
 use Rattle.frame.proofs.Copying.{counts-length}
+use Rattle.frame.proofs.Marking.{pass-all}
 use Rattle.frame.proofs.Putting.{matches}
 use Rattle.assembly.specs.History.{File, State, next, heldAfter, answer, isFine, bears, came, segment, joined}
 use Rattle.assembly.proofs.Joined.{sizes, sizes-even, joined-ext, joined-length, joined-put, with}
@@ -79,10 +80,6 @@ row-set p n k h =
     set-put (row p n) k true (rw (row-length p n) h)
     ∙ (rw e at (joined-put (λ _. 1) (λ j. p j ∷ []) n k (true ∷ []) (λ _. refl) refl h))
     ∙ joined-ext (with (λ j. p j ∷ []) (suc k) (true ∷ [])) (λ j. (p j || eqb (suc k) j) ∷ []) n (λ j _ _. pick (p j) (eqb (suc k) j))
-
-clear-all : (marks : List Bool) (k n : ℕ) → ((j : ℕ) → k ≤ j → j < k + n → getD marks j false ≡ false) → pass not false marks k n ≡ true
-clear-all marks k zero h = refl
-clear-all marks k (suc n) h = rw (h k (omega arith) (omega arith)) (clear-all marks (k + 1) n (λ j a b. h j (omega arith) (omega arith)))
 
 -- ---- a file that bears a number
 
@@ -141,8 +138,8 @@ came-within s k (f ∷ fs) h =
 pub marks-none : (s : Slate) (fs : List File) → noneAbove (s .total) (marksOf s fs) ≡ true
 unfolding noneAbove
 marks-none s fs =
-    clear-all (marksOf s fs) (s .total) (99 - s .total)
-    (λ j a b. row-at (λ k. came s k fs) 99 j (omega arith) ∙ came-within s (suc j) fs (omega arith))
+    pass-all not false (marksOf s fs) (s .total) (99 - s .total)
+    (λ j a b. rw (row-at (λ k. came s k fs) 99 j (omega arith) ∙ came-within s (suc j) fs (omega arith)))
 
 -- nor 0
 came-some : (s : Slate) (fs : List File) → came s 0 fs ≡ false

@@ -1,9 +1,9 @@
 -- Laws of the loops over a record's marks.
 -- Assumes nothing.
-use mathlib.Core.Path.{_≡_, sym, _∙_}
+use mathlib.Core.Path.{_≡_, refl, sym, _∙_}
 use mathlib.Core.Bool.{Bool, true, false}
 use mathlib.Core.List.{List}
-use Prim.Native.Nat.{ℕ, suc, _+_, _-_, _<_, _≤_}
+use Prim.Native.Nat.{ℕ, zero, suc, _+_, _-_, _<_, _≤_}
 use native.Mathlib.Nat.{zero-add, add-zero, add-assoc}
 use native.Mathlib.Omega.{arith}
 use lib.ListN.{getD}
@@ -20,6 +20,11 @@ module _ {A : Type 0} (test : A → Bool) (d : A) (l : List A) (k : ℕ) where
 
   pub pass-end : 99 ≤ k → pass test d l k (99 - k) ≡ true
   pass-end h = let s : 99 - k ≡ 0 = omega arith in rw s
+
+-- what every element of a stretch passes, the stretch does
+pub pass-all : {A : Type 0} (test : A → Bool) (d : A) (l : List A) (k n : ℕ) → ((i : ℕ) → k ≤ i → i < k + n → test (getD l i d) ≡ true) → pass test d l k n ≡ true
+pass-all test d l k zero h = refl
+pass-all test d l k (suc n) h = rw (h k (omega arith) (omega arith)) (pass-all test d l (k + 1) n (λ i a b. h i (omega arith) (omega arith)))
 
 -- ---- what was counted so far, and what is still to be counted from place k on
 

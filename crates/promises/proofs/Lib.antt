@@ -12,6 +12,8 @@ pub mod Told
 pub mod Demand2
 pub mod Runs
 pub mod Slated
+pub mod Reasons
+pub mod Offers
 pub mod Why
 pub mod Demand3
 pub mod FromC

@@ -19,7 +19,8 @@ use Rattle.slate.specs.Cut.{coverOf}
 use Rattle.slate.specs.Slates.{goodSlate, slated, frameLines, frameSize}
 use Rattle.frame.specs.Counts.{countsOf}
 use Rattle.frame.specs.declared.Record.{Record}
-use Rattle.frame.specs.Records.{pass, oneOf, noMarks, marked, mark}
+use Rattle.frame.specs.Records.{oneOf, noMarks, marked, mark}
+use Rattle.frame.proofs.Marking.{pass-all}
 use Rattle.frame.specs.Frames as frames
 use Rattle.frame.specs.Lines.{lineOf}
 use Rattle.assembly.specs.History.{File, bears, came, Apart, Agree, alone, lineIn, withinOf}
@@ -65,15 +66,9 @@ one-most : (b : Bool) → oneOf b ≤ 1
 one-most true = omega arith
 one-most false = omega arith
 
-bits-out : (marks : List Bool) (k n : ℕ) → k + n ≤ 99 → pass isBit 0 (marksOut marks) k n ≡ true
-bits-out marks k zero h = refl
-bits-out marks k (suc n) h =
-    let e = getD-tab (λ i. oneOf (getD marks i false)) 99 k (omega arith) in
-    rw (e, le-leb (oneOf (getD marks k false)) 1 (one-most (getD marks k false))) (bits-out marks (k + 1) n (omega arith))
-
 good-out : (marks : List Bool) → goodMarks (marksOut marks) ≡ true
 unfolding goodMarks bitsFrom
-good-out marks = and-eq-true-iff _ _ .1 (eq-eqb _ 99 (length-tab (λ k. oneOf (getD marks k false)) 99), bits-out marks 0 99 (omega arith))
+good-out marks = and-eq-true-iff _ _ .1 (eq-eqb _ 99 (length-tab (λ k. oneOf (getD marks k false)) 99), pass-all isBit 0 (marksOut marks) 0 99 (λ i a b. rw (getD-tab (λ k. oneOf (getD marks k false)) 99 i b) (le-leb _ 1 (one-most (getD marks i false)))))
 
 -- ---- a ruling of the paper's table is some verdict's
 
