@@ -25,8 +25,8 @@ use Rattle.assembly.proofs.Demand.{apart-agree}
 use Rattle.assembly.proofs.Runs as runs
 use Rattle.plugin_frames.specs.declared.HsdSlate.{HsdSlate}
 use Rattle.plugin.specs.Plugin.{shownRuling}
-use Rattle.plugin_frames.specs.Strips.{slateIn, marksIn}
-use Rattle.promises.specs.Slated.{Good, Match}
+use Rattle.plugin_frames.specs.Strips.{marksIn}
+use Rattle.promises.specs.Slated.{Good, Match, slateFrom}
 use Rattle.promises.proofs.Slated.{good-exactly, bears-exactly}
 use Rattle.promises.proofs.Slated as from-slate
 use Rattle.promises.specs.Runs.{Offer, filesOf, RanC, AskedC}
@@ -102,7 +102,7 @@ module _ (s : Slate) (ok : goodSlate s ≡ true) (lent : List ℕ) (fits : lengt
     same-total = runs.same-total s ok lent fits run other fits' run' order
 
 -- ---- from C. Opening makes an empty record of any 99 marks: for a good slate and a strip of its size it is never refused.
-pub opens-c : (κ : _) (a : _) (r : _) (t : _) → hsd-open.Post κ a r t → length (now (a .1 .0)) ≡ 99 → goodSlate (slateIn (a .0)) ≡ true → length (now (a .1 .1 .0)) ≡ frameSize (slateIn (a .0))
+pub opens-c : (κ : _) (a : _) (r : _) (t : _) → hsd-open.Post κ a r t → length (now (a .1 .0)) ≡ 99 → goodSlate (slateFrom (a .0)) ≡ true → length (now (a .1 .1 .0)) ≡ frameSize (slateFrom (a .0))
     → (r .refusal ≡ 0) × (now (t .1 .0) ≡ replicate 99 0) × (now (t .1 .1 .0) ≡ replicate (length (now (a .1 .1 .0))) 65534)
 opens-c = from.opens
 
@@ -114,31 +114,31 @@ module _ {s : HsdSlate} {lent : List ℕ} {cs : List Offer} {marks frame : List 
   from-c = lifted run
 
   -- so that what is said above holds of it: of each answer, the marks and the lines
-  pub answer-from-c : Apart (slateIn s) (filesOf cs) → (c : Offer) → List·Memᴰ c cs → c .answer ≡ shownRuling (alone (slateIn s) (c .file))
+  pub answer-from-c : Apart (slateFrom s) (filesOf cs) → (c : Offer) → List·Memᴰ c cs → c .answer ≡ shownRuling (alone (slateFrom s) (c .file))
   answer-from-c = from.answer-c run
 
-  pub coming-from-c : (k : ℕ) → marked (marksIn marks) k ≡ came (slateIn s) k (filesOf cs)
+  pub coming-from-c : (k : ℕ) → marked (marksIn marks) k ≡ came (slateFrom s) k (filesOf cs)
   coming-from-c = from.numbers-c run
 
-  module _ (line : ℕ) (some : 1 ≤ line) (most : line ≤ frameLines (slateIn s)) where
-    pub line-came-from-c : Agree (slateIn s) (filesOf cs) → (f : File) → List·Memᴰ f (filesOf cs) → bears (slateIn s) (coverOf (slateIn s) line) f ≡ true
-        → lineIn (slateIn s) frame line ≡ lineIn (slateIn s) (countsOf f) (withinOf (slateIn s) line)
+  module _ (line : ℕ) (some : 1 ≤ line) (most : line ≤ frameLines (slateFrom s)) where
+    pub line-came-from-c : Agree (slateFrom s) (filesOf cs) → (f : File) → List·Memᴰ f (filesOf cs) → bears (slateFrom s) (coverOf (slateFrom s) line) f ≡ true
+        → lineIn (slateFrom s) frame line ≡ lineIn (slateFrom s) (countsOf f) (withinOf (slateFrom s) line)
     line-came-from-c = from.line-came-c run line some most
 
-    pub line-missing-from-c : came (slateIn s) (coverOf (slateIn s) line) (filesOf cs) ≡ false → lineIn (slateIn s) frame line ≡ replicate (s .columns) 65534
+    pub line-missing-from-c : came (slateFrom s) (coverOf (slateFrom s) line) (filesOf cs) ≡ false → lineIn (slateFrom s) frame line ≡ replicate (s .columns) 65534
     line-missing-from-c = from.line-missing-c run line some most
 
     -- and of a line that C asks for: it is the part that the library gives, copied where there is room
-    pub asked-from-c : {leader out out' : List ℕ} {n : ℕ} → AskedC s marks frame leader line out n out' → Copied (slateIn s) (from-c .newest) frame leader line out n out'
+    pub asked-from-c : {leader out out' : List ℕ} {n : ℕ} → AskedC s marks frame leader line out n out' → Copied (slateFrom s) (from-c .newest) frame leader line out n out'
     asked-from-c = from.copied from-c
 
   -- the same files in any other order, over any strip that was not refused: each is answered the same, and marks and frame are the same
   module _ {other : List ℕ} {ds : List Offer} {marks' frame' : List ℕ} (run' : RanC s other ds marks' frame') (order : List·Permᴰ (filesOf cs) (filesOf ds)) where
-    pub same-answers-from-c : Apart (slateIn s) (filesOf cs) → (c d : Offer) → List·Memᴰ c cs → List·Memᴰ d ds → c .file ≡ d .file → c .answer ≡ d .answer
+    pub same-answers-from-c : Apart (slateFrom s) (filesOf cs) → (c d : Offer) → List·Memᴰ c cs → List·Memᴰ d ds → c .file ≡ d .file → c .answer ≡ d .answer
     same-answers-from-c = from.same-answers-c run run' order
 
     pub same-marks-from-c : marks ≡ marks'
     same-marks-from-c = from.same-marks-c run run' order
 
-    pub same-frame-from-c : Agree (slateIn s) (filesOf cs) → frame ≡ frame'
+    pub same-frame-from-c : Agree (slateFrom s) (filesOf cs) → frame ≡ frame'
     same-frame-from-c = from.same-frame-c run run' order

@@ -26,11 +26,11 @@ use Rattle.frame.proofs.Marking.{pass-all}
 use Rattle.frame.proofs.offer.Reads as offer
 use Rattle.plugin.specs.Plugin.{shownRuling}
 use Rattle.plugin_frames.specs.declared.HsdSlate.{HsdSlate}
-use Rattle.plugin_frames.specs.Strips.{slateIn, isBit, bitsFrom, goodMarks, lent, marksIn, offeredC, offerMarks, offerStrip}
+use Rattle.plugin_frames.specs.Strips.{isBit, bitsFrom, goodMarks, lent, marksIn, offeredC, offerMarks, offerStrip}
 use Rattle.plugin_frames.proofs.Lending.{lent-good}
 use Rattle.plugin_frames.proofs.hsd_offer.Reads as hsd-offer
 use Rattle.tiling.proofs.Lawful.{and}
-use Rattle.promises.specs.Slated.{Good, Match}
+use Rattle.promises.specs.Slated.{Good, Match, slateFrom}
 use Rattle.promises.specs.Night.{answerOf}
 use Rattle.promises.specs.Why.{Accepted, Never, SoFarC, NeverC}
 use Rattle.promises.proofs.Refusals.{left}
@@ -125,15 +125,15 @@ none-above-c : (m : List ℕ) (total : ℕ) → total ≤ 99 → ((i : ℕ) → 
 unfolding noneAbove
 none-above-c m total l h = pass-all not false (marksIn m) total (99 - total) (λ i a b. rw (getD-flags m 99 i (omega arith), h i a))
 
-module _ (s : HsdSlate) (f : List ℕ) (g : Good (slateIn s)) (ok : Accepted f) (m : List ℕ) (size : ℕ) where
-  pub not-other-c : Match (slateIn s) (factsOf f) → shownRuling (offeredC s m size f) .refusal ≡ 15 → ⊥
+module _ (s : HsdSlate) (f : List ℕ) (g : Good (slateFrom s)) (ok : Accepted f) (m : List ℕ) (size : ℕ) where
+  pub not-other-c : Match (slateFrom s) (factsOf f) → shownRuling (offeredC s m size f) .refusal ≡ 15 → ⊥
   not-other-c h e =
-      shown-15 (offeredC s m size f) e (never-lent (goodMarks m) (offering (slateIn s) (marksIn m) size f) (not-other (slateIn s) f g ok (marksIn m) size h))
+      shown-15 (offeredC s m size f) e (never-lent (goodMarks m) (offering (slateFrom s) (marksIn m) size f) (not-other (slateFrom s) f g ok (marksIn m) size h))
 
-  pub other-c : matching (slateIn s) (factsOf f) ≡ false → SoFarC s m size → offeredC s m size f ≡ refused (turned 15 0 0)
+  pub other-c : matching (slateFrom s) (factsOf f) ≡ false → SoFarC s m size → offeredC s m size f ≡ refused (turned 15 0 0)
   other-c h w =
-      lent-good (goodMarks m) (offering (slateIn s) (marksIn m) size f) (good-marks m (w .long) (w .bits))
-      ∙ other (slateIn s) f g ok (marksIn m) size h (none-above-c m (s .total) (g .most-total) (w .above)) (size-is (slateIn s) (w .frame))
+      lent-good (goodMarks m) (offering (slateFrom s) (marksIn m) size f) (good-marks m (w .long) (w .bits))
+      ∙ other (slateFrom s) f g ok (marksIn m) size h (none-above-c m (s .total) (g .most-total) (w .above)) (size-is (slateFrom s) (w .frame))
 
 -- an offer to a frame that was just opened
 abbrev fresh-c : HsdSlate → RefT (List ℕ) → HsdSlate × (RefT (List ℕ) × (RefT (List ℕ) × (RefT (List ℕ) × Unit {0})))
@@ -141,7 +141,7 @@ fresh-c s file = (
   s,
   (
     record { ptr = file .ptr; name = file .name; now = replicate 99 0 },
-    (record { ptr = file .ptr; name = file .name; now = replicate (frameSize (slateIn s)) 65534 }, (file, tt)),
+    (record { ptr = file .ptr; name = file .name; now = replicate (frameSize (slateFrom s)) 65534 }, (file, tt)),
   ),
 )
 
@@ -150,25 +150,25 @@ zero-at zero i = refl
 zero-at (suc n) zero = refl
 zero-at (suc n) (suc i) = zero-at n i
 
-so-far-fresh : (s : HsdSlate) → SoFarC s (replicate 99 0) (length (replicate {A = ℕ} (frameSize (slateIn s)) 65534))
+so-far-fresh : (s : HsdSlate) → SoFarC s (replicate 99 0) (length (replicate {A = ℕ} (frameSize (slateFrom s)) 65534))
 unfolding linesTo
 so-far-fresh s = record {
   long = length-replicate {A = ℕ} 99 0;
   bits = λ i. rw (zero-at 99 i) (omega arith);
   above = λ i h. zero-at 99 i;
-  frame = length-replicate {A = ℕ} (frameSize (slateIn s)) 65534;
+  frame = length-replicate {A = ℕ} (frameSize (slateFrom s)) 65534;
 }
 
-offers-fresh-c : (κ : _) (s : HsdSlate) (file : RefT (List ℕ)) → Good (slateIn s) → Accepted (now file) → matching (slateIn s) (factsOf (now file)) ≡ false
+offers-fresh-c : (κ : _) (s : HsdSlate) (file : RefT (List ℕ)) → Good (slateFrom s) → Accepted (now file) → matching (slateFrom s) (factsOf (now file)) ≡ false
     → hsd-offer.Post κ (fresh-c s file) (record { refusal = 15; block = 0; offset = 0 }) (fresh-c s file)
 unfolding shownRuling offerMarks offerStrip
 offers-fresh-c κ s file g ok m =
     let e = other-c s (now file) g ok (replicate 99 0) _ m (so-far-fresh s) in
     (sym (ap shownRuling e), (sym (left _ _ _ _ e), sym (left _ _ _ _ e)))
 
-pub never-match-c : (κ : Lft) (s : HsdSlate) (file : RefT (List ℕ)) → Good (slateIn s) → Accepted (now file) → NeverC s (now file) → matching (slateIn s) (factsOf (now file)) ≡ true
-never-match-c κ s file g ok h = go (matching (slateIn s) (factsOf (now file))) refl
+pub never-match-c : (κ : Lft) (s : HsdSlate) (file : RefT (List ℕ)) → Good (slateFrom s) → Accepted (now file) → NeverC s (now file) → matching (slateFrom s) (factsOf (now file)) ≡ true
+never-match-c κ s file g ok h = go (matching (slateFrom s) (factsOf (now file))) refl
   where
-    go : (b : Bool) → matching (slateIn s) (factsOf (now file)) ≡ b → b ≡ true
+    go : (b : Bool) → matching (slateFrom s) (factsOf (now file)) ≡ b → b ≡ true
     go true e = refl
     go false e = absurd (h (κ, (κ, (κ, tt))) (fresh-c s file) (record { refusal = 15; block = 0; offset = 0 }) (fresh-c s file) (offers-fresh-c (κ, (κ, (κ, tt))) s file g ok e) refl refl refl)

@@ -30,10 +30,11 @@ use Rattle.assembly.proofs.Runs as runs
 use Rattle.plugin_frames.specs.declared.HsdSlate.{HsdSlate}
 use Rattle.plugin.specs.declared.HsdAnswer.{HsdAnswer}
 use Rattle.plugin.specs.Plugin.{shownRuling}
-use Rattle.plugin_frames.specs.Strips.{slateIn, longMarks, isBit, bitsFrom, goodMarks, lent, flags, marksIn, marksOut, openedC, offeredC, openMarks, openStrip, offerMarks, lineC, copiedOf, copyOf}
+use Rattle.plugin_frames.specs.Strips.{longMarks, isBit, bitsFrom, goodMarks, lent, flags, marksIn, marksOut, openedC, offeredC, openMarks, openStrip, offerMarks, lineC, copiedOf, copyOf}
 use Rattle.plugin_frames.proofs.Lending.{length-flags, lent-good, offer-strip}
 use Rattle.plugin_frames.proofs.hsd_open.Reads as hsd-open
 use Rattle.promises.specs.Blocks.{allowed}
+use Rattle.promises.specs.Slated.{slateFrom}
 use Rattle.promises.specs.Runs.{Offer, filesOf, answersOf, RanC, opened, offered, AskedC, asked}
 use Rattle.promises.proofs.Refusals.{refused-in, of-number, none-fine}
 use Rattle.promises.proofs.Demand1.{in-opening, in-offering, in-lent}
@@ -93,13 +94,13 @@ no-marks : marksOut noMarks ≡ replicate 99 0
 unfolding tab
 no-marks = refl
 
-pub opens : (κ : _) (a : _) (r : _) (t : _) → hsd-open.Post κ a r t → length (now (a .1 .0)) ≡ 99 → goodSlate (slateIn (a .0)) ≡ true → length (now (a .1 .1 .0)) ≡ frameSize (slateIn (a .0))
+pub opens : (κ : _) (a : _) (r : _) (t : _) → hsd-open.Post κ a r t → length (now (a .1 .0)) ≡ 99 → goodSlate (slateFrom (a .0)) ≡ true → length (now (a .1 .1 .0)) ≡ frameSize (slateFrom (a .0))
     → (r .refusal ≡ 0) × (now (t .1 .0) ≡ replicate 99 0) × (now (t .1 .1 .0) ≡ replicate (length (now (a .1 .1 .0))) 65534)
 unfolding frames.opening frames.openFrame slated shownRuling openMarks openStrip after
 opens κ a r t p long ok fits =
     let size = length (now (a .1 .1 .0)) in
-    let rows = frames.opening (slateIn (a .0)) size in
-    let free : frames.opened (slateIn (a .0)) size ≡ fine = exactly rows .1 (holds ok (holds (eq-eqb _ _ fits) tt)) in
+    let rows = frames.opening (slateFrom (a .0)) size in
+    let free : frames.opened (slateFrom (a .0)) size ≡ fine = exactly rows .1 (holds ok (holds (eq-eqb _ _ fits) tt)) in
     let good : openedC (a .0) (now (a .1 .0)) size ≡ fine = lent-good (longMarks (now (a .1 .0))) rows (eq-eqb _ _ long) ∙ free in
     (ap (λ (h : HsdAnswer). h .refusal) (p .0 ∙ ap shownRuling good), p .1 .0 ∙ rw good no-marks, p .1 .1 ∙ rw (good, free))
 
@@ -109,14 +110,14 @@ opens κ a r t p long ok fits =
 pub record Lifted (s : HsdSlate) (lent : List ℕ) (cs : List Offer) (marks frame : List ℕ) : Type 0 where
   pub calls : List library.Call
   pub newest : Record
-  pub ran : library.Ran (slateIn s) lent calls newest frame
+  pub ran : library.Ran (slateFrom s) lent calls newest frame
   pub files : library.files calls ≡ filesOf cs
   pub answers : map shownRuling (library.rulings calls) ≡ answersOf cs
   pub is : marks ≡ marksOut (newest .marks)
   pub long : length (newest .marks) ≡ 99
   -- opening was not refused, so that slate and strip were good
-  pub good : goodSlate (slateIn s) ≡ true
-  pub fits : length lent ≡ frameSize (slateIn s)
+  pub good : goodSlate (slateFrom s) ≡ true
+  pub fits : length lent ≡ frameSize (slateFrom s)
 
 kept : (r : Ruling) (marks new : List Bool) → after r (marksOut marks) (marksOut (after r marks new)) ≡ marksOut (after r marks new)
 unfolding after
@@ -133,7 +134,7 @@ unfolding openMarks openStrip offerMarks frames.opening slated frames.recordAfte
 lifted (opened κ a r t p es el z) =
     let strip = now (a .1 .1 .0) in
     let m = now (a .1 .0) in
-    let slate = slateIn (a .0) in
+    let slate = slateFrom (a .0) in
     let rows = frames.opening slate (length strip) in
     let in-rows = refused-in (tables (lent (longMarks m) ∷ rows ∷ [])) (in-lent (longMarks m) rows (in-opening slate (length strip))) in
     let good : openedC (a .0) m (length strip) ≡ fine = shown-fine _ in-rows (rw (p .0) at z) in
@@ -142,13 +143,13 @@ lifted (opened κ a r t p es el z) =
       calls = [];
       newest = record { marks = noMarks };
       ran = library.opened (κ .1) (slate, (a .1 .1 .0, tt)) (record { verdict = verdictOf fine; rec = record { marks = noMarks } }) (slate, (t .1 .1 .0, tt))
-          (sym (exactly rows .1 (each .1 .0)), (refl, p .1 .1 ∙ rw good)) (ap slateIn es) el;
+          (sym (exactly rows .1 (each .1 .0)), (refl, p .1 .1 ∙ rw good)) (ap slateFrom es) el;
       files = refl;
       answers = refl;
       is = p .1 .0 ∙ rw good;
       long = length-replicate 99 false;
       good = rw es at (each .1 .0 .0);
-      fits = sym (ap length el) ∙ eqb-true (length strip) (frameSize slate) (each .1 .0 .1 .0) ∙ ap (λ (s : HsdSlate). frameSize (slateIn s)) es;
+      fits = sym (ap length el) ∙ eqb-true (length strip) (frameSize slate) (each .1 .0 .1 .0) ∙ ap (λ (s : HsdSlate). frameSize (slateFrom s)) es;
     }
 lifted (offered run κ a r t p es em ef) =
     let l = lifted run in
@@ -156,7 +157,7 @@ lifted (offered run κ a r t p es em ef) =
     let m = now (a .1 .0) in
     let strip = now (a .1 .1 .0) in
     let f = now (a .1 .1 .1 .0) in
-    let slate = slateIn (a .0) in
+    let slate = slateFrom (a .0) in
     let ruling = frames.offered slate marks (length strip) f in
     let out : m ≡ marksOut marks = em ∙ l .is in
     let back : marksIn m ≡ marks = ap marksIn out ∙ marks-back marks (l .long) in
@@ -170,7 +171,7 @@ lifted (offered run κ a r t p es em ef) =
       newest = record { marks = after-it };
       ran = library.offered (l .ran) (κ .1) (slate, (l .newest, (a .1 .1 .0, (a .1 .1 .1 .0, tt)))) (record { verdict = verdictOf ruling; rec = record { marks = after-it } })
           (slate, (l .newest, (t .1 .1 .0, (t .1 .1 .1 .0, tt))))
-          (said, (refl, p .1 .1 ∙ sym (offer-strip (a .0) m good strip f) ∙ ap (λ (k : List Bool). frames.frameAfter slate k strip f) back)) (ap slateIn es) refl ef;
+          (said, (refl, p .1 .1 ∙ sym (offer-strip (a .0) m good strip f) ∙ ap (λ (k : List Bool). frames.frameAfter slate k strip f) back)) (ap slateFrom es) refl ef;
       files = ap (λ (fs : List File). f ∷ fs) (l .files);
       answers = λ i. (ap shownRuling (said ∙ sym same) ∙ sym (p .0)) i ∷ l .answers i;
       is = p .1 .0 ∙ (λ i. after (same i) (out i) (marksOut (frames.recordAfter slate (back i) (length strip) f))) ∙ kept ruling marks _;
@@ -197,24 +198,24 @@ module _ {s : HsdSlate} {lent : List ℕ} {cs : List Offer} {marks frame : List 
   abbrev l : Lifted s lent cs marks frame
   l = lifted run
 
-  pub answer-c : Apart (slateIn s) (filesOf cs) → (c : Offer) → List·Memᴰ c cs → c .answer ≡ shownRuling (alone (slateIn s) (c .file))
+  pub answer-c : Apart (slateFrom s) (filesOf cs) → (c : Offer) → List·Memᴰ c cs → c .answer ≡ shownRuling (alone (slateFrom s) (c .file))
   answer-c a c m =
-      let h = all-alone (slateIn s) (l .calls) (runs.by-itself (slateIn s) (l .good) lent (l .fits) (l .ran) (rw (l .files) a)) in
-      each (λ f. shownRuling (alone (slateIn s) f))
-      (sym (l .answers) ∙ ap (map shownRuling) h ∙ ap (λ (fs : List File). map shownRuling (map (alone (slateIn s)) fs)) (l .files) ∙ map-map shownRuling (alone (slateIn s)) (filesOf cs)) m
+      let h = all-alone (slateFrom s) (l .calls) (runs.by-itself (slateFrom s) (l .good) lent (l .fits) (l .ran) (rw (l .files) a)) in
+      each (λ f. shownRuling (alone (slateFrom s) f))
+      (sym (l .answers) ∙ ap (map shownRuling) h ∙ ap (λ (fs : List File). map shownRuling (map (alone (slateFrom s)) fs)) (l .files) ∙ map-map shownRuling (alone (slateFrom s)) (filesOf cs)) m
 
-  pub numbers-c : (k : ℕ) → marked (marksIn marks) k ≡ came (slateIn s) k (filesOf cs)
+  pub numbers-c : (k : ℕ) → marked (marksIn marks) k ≡ came (slateFrom s) k (filesOf cs)
   numbers-c k =
       ap (λ (m : List ℕ). marked (marksIn m) k) (l .is) ∙ ap (λ (m : List Bool). marked m k) (marks-back (l .newest .marks) (l .long))
-      ∙ runs.record-is (slateIn s) (l .good) lent (l .fits) (l .ran) k ∙ ap (came (slateIn s) k) (l .files)
+      ∙ runs.record-is (slateFrom s) (l .good) lent (l .fits) (l .ran) k ∙ ap (came (slateFrom s) k) (l .files)
 
-  module _ (line : ℕ) (some : 1 ≤ line) (most : line ≤ frameLines (slateIn s)) where
-    pub line-came-c : Agree (slateIn s) (filesOf cs) → (f : File) → List·Memᴰ f (filesOf cs) → bears (slateIn s) (coverOf (slateIn s) line) f ≡ true
-        → lineIn (slateIn s) frame line ≡ lineIn (slateIn s) (countsOf f) (withinOf (slateIn s) line)
-    line-came-c a f m e = runs.line-came (slateIn s) (l .good) lent (l .fits) (l .ran) (rw (l .files) a) line some most f (rw (l .files) m) e
+  module _ (line : ℕ) (some : 1 ≤ line) (most : line ≤ frameLines (slateFrom s)) where
+    pub line-came-c : Agree (slateFrom s) (filesOf cs) → (f : File) → List·Memᴰ f (filesOf cs) → bears (slateFrom s) (coverOf (slateFrom s) line) f ≡ true
+        → lineIn (slateFrom s) frame line ≡ lineIn (slateFrom s) (countsOf f) (withinOf (slateFrom s) line)
+    line-came-c a f m e = runs.line-came (slateFrom s) (l .good) lent (l .fits) (l .ran) (rw (l .files) a) line some most f (rw (l .files) m) e
 
-    pub line-missing-c : came (slateIn s) (coverOf (slateIn s) line) (filesOf cs) ≡ false → lineIn (slateIn s) frame line ≡ replicate (s .columns) 65534
-    line-missing-c e = runs.line-missing (slateIn s) (l .good) lent (l .fits) (l .ran) line some most (rw (l .files) e)
+    pub line-missing-c : came (slateFrom s) (coverOf (slateFrom s) line) (filesOf cs) ≡ false → lineIn (slateFrom s) frame line ≡ replicate (s .columns) 65534
+    line-missing-c e = runs.line-missing (slateFrom s) (l .good) lent (l .fits) (l .ran) line some most (rw (l .files) e)
 
   module _ {other : List ℕ} {ds : List Offer} {marks' frame' : List ℕ} (run' : RanC s other ds marks' frame') (order : List·Permᴰ (filesOf cs) (filesOf ds)) where
     abbrev l' : Lifted s other ds marks' frame'
@@ -225,10 +226,10 @@ module _ {s : HsdSlate} {lent : List ℕ} {cs : List Offer} {marks frame : List 
 
     pub same-marks-c : marks ≡ marks'
     same-marks-c =
-        l .is ∙ ap (λ (r : Record). marksOut (r .marks)) (runs.same-record (slateIn s) (l .good) lent (l .fits) (l .ran) other (l' .fits) (l' .ran) perm) ∙ sym (l' .is)
+        l .is ∙ ap (λ (r : Record). marksOut (r .marks)) (runs.same-record (slateFrom s) (l .good) lent (l .fits) (l .ran) other (l' .fits) (l' .ran) perm) ∙ sym (l' .is)
 
-    pub same-frame-c : Agree (slateIn s) (filesOf cs) → frame ≡ frame'
-    same-frame-c a = runs.same-frame (slateIn s) (l .good) lent (l .fits) (l .ran) other (l' .fits) (l' .ran) perm (rw (l .files) a)
+    pub same-frame-c : Agree (slateFrom s) (filesOf cs) → frame ≡ frame'
+    same-frame-c a = runs.same-frame (slateFrom s) (l .good) lent (l .fits) (l .ran) other (l' .fits) (l' .ran) perm (rw (l .files) a)
 
 -- a line that C asks for is the part that the library gives for it, copied to the output where there is room
 pub record Copied (s : Slate) (newest : Record) (frame leader : List ℕ) (line : ℕ) (out : List ℕ) (n : ℕ) (out' : List ℕ) : Type 0 where
@@ -238,7 +239,7 @@ pub record Copied (s : Slate) (newest : Record) (frame leader : List ℕ) (line 
   pub copy : out' ≡ copyOf part out
 
 pub copied : {s : HsdSlate} {lent : List ℕ} {cs : List Offer} {marks frame leader out out' : List ℕ} {line n : ℕ} (run : Lifted s lent cs marks frame)
-    → AskedC s marks frame leader line out n out' → Copied (slateIn s) (run .newest) frame leader line out n out'
+    → AskedC s marks frame leader line out n out' → Copied (slateFrom s) (run .newest) frame leader line out n out'
 unfolding lineC
 copied {out = out} run (asked κ a r t p es em ef el ei eo) =
     let marks = run .newest .marks in
@@ -246,21 +247,21 @@ copied {out = out} run (asked κ a r t p es em ef el ei eo) =
     let strip = now (a .1 .1 .0) in
     let leader = now (a .1 .1 .1 .0) in
     let line = a .1 .1 .1 .1 .0 in
-    let part = lineOf (slateIn (a .0)) marks strip leader line in
+    let part = lineOf (slateFrom (a .0)) marks strip leader line in
     let e : m ≡ marksOut marks = em ∙ run .is in
     let good : goodMarks m ≡ true = rw e (good-out marks) in
     let back : marksIn m ≡ marks = ap marksIn e ∙ marks-back marks (run .long) in
-    let same : lineC (a .0) m strip leader line ≡ part = rw good (ap (λ (k : List Bool). lineOf (slateIn (a .0)) k strip leader line) back) in
+    let same : lineC (a .0) m strip leader line ≡ part = rw good (ap (λ (k : List Bool). lineOf (slateFrom (a .0)) k strip leader line) back) in
     record {
       part = part;
-      came = library.asked (κ .0, tt) (slateIn (a .0), (run .newest, (a .1 .1 .0, (a .1 .1 .1 .0, (record { 0 = line }, tt))))) (record { ptr = a .1 .1 .0 .ptr; name = a .1 .1 .0 .name; now = part })
-          (slateIn (a .0), (run .newest, (a .1 .1 .0, (a .1 .1 .1 .0, (record { 0 = line }, tt))))) refl (ap slateIn es) refl ef el ei;
+      came = library.asked (κ .0, tt) (slateFrom (a .0), (run .newest, (a .1 .1 .0, (a .1 .1 .1 .0, (record { 0 = line }, tt))))) (record { ptr = a .1 .1 .0 .ptr; name = a .1 .1 .0 .name; now = part })
+          (slateFrom (a .0), (run .newest, (a .1 .1 .0, (a .1 .1 .1 .0, (record { 0 = line }, tt))))) refl (ap slateFrom es) refl ef el ei;
       count = p .0 ∙ (λ i. copiedOf (same i) (eo i));
       copy = p .1 ∙ (λ i. copyOf (same i) (eo i));
     }
 
 -- and each file is answered the same
 pub same-answers-c : {s : HsdSlate} {lent other : List ℕ} {cs ds : List Offer} {marks marks' frame frame' : List ℕ} → RanC s lent cs marks frame → RanC s other ds marks' frame'
-    → List·Permᴰ (filesOf cs) (filesOf ds) → Apart (slateIn s) (filesOf cs) → (c d : Offer) → List·Memᴰ c cs → List·Memᴰ d ds → c .file ≡ d .file → c .answer ≡ d .answer
+    → List·Permᴰ (filesOf cs) (filesOf ds) → Apart (slateFrom s) (filesOf cs) → (c d : Offer) → List·Memᴰ c cs → List·Memᴰ d ds → c .file ≡ d .file → c .answer ≡ d .answer
 same-answers-c {s} run run' order a c d m n e =
-    answer-c run a c m ∙ ap (λ (f : File). shownRuling (alone (slateIn s) f)) e ∙ sym (answer-c run' (apart-perm (slateIn s) order a) d n)
+    answer-c run a c m ∙ ap (λ (f : File). shownRuling (alone (slateFrom s) f)) e ∙ sym (answer-c run' (apart-perm (slateFrom s) order a) d n)

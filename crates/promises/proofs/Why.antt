@@ -22,10 +22,10 @@ use Rattle.plugin.specs.declared.HsdAnswer.{HsdAnswer}
 use Rattle.plugin.specs.Plugin.{shownRuling}
 use Rattle.plugin_frames.specs.declared.HsdSlate.{HsdSlate}
 use Rattle.plugin_frames.specs.declared.HsdWhy.{HsdWhy}
-use Rattle.plugin_frames.specs.Strips.{slateIn, offeredC}
+use Rattle.plugin_frames.specs.Strips.{offeredC}
 use Rattle.plugin_frames.proofs.hsd_offer.Reads as hsd-offer
 use Rattle.plugin_frames.proofs.hsd_why.Reads as hsd-why
-use Rattle.promises.specs.Slated.{Good}
+use Rattle.promises.specs.Slated.{Good, slateFrom}
 use Rattle.promises.specs.Why.{Accepted, Reasoned, Agreed, Differed, Never, Always, rank, ShownAs, NeverC, AlwaysC}
 use Rattle.promises.proofs.Refusals.{refuses-in, none-fine}
 use Rattle.promises.proofs.Demand1.{in-asking}
@@ -72,33 +72,33 @@ answered-c : {s : HsdSlate} {f : List ℕ} (κ : _) (a : _) (r : _) (t : _) → 
 answered-c κ a r t p es ef = p .0 ∙ (λ i. shownRuling (offeredC (es i) (now (a .1 .0)) (length (now (a .1 .1 .0))) (ef i)))
 
 module _ (κ : _) (a : _) (r : _) (t : _) (p : hsd-why.Post κ a r t) where
-  shown-so : ShownAs r (reasonOf (slateIn (a .0)) (now (a .1 .0)))
-  shown-so = subst (λ (x : HsdWhy). ShownAs x (reasonOf (slateIn (a .0)) (now (a .1 .0)))) (sym p) (shown-as (reasonOf (slateIn (a .0)) (now (a .1 .0))))
+  shown-so : ShownAs r (reasonOf (slateFrom (a .0)) (now (a .1 .0)))
+  shown-so = subst (λ (x : HsdWhy). ShownAs x (reasonOf (slateFrom (a .0)) (now (a .1 .0)))) (sym p) (shown-as (reasonOf (slateFrom (a .0)) (now (a .1 .0))))
 
-  pub reasons-c : Reasoned (ShownAs r) (slateIn (a .0)) (now (a .1 .0))
-  reasons-c = reasoned (slateIn (a .0)) (now (a .1 .0)) (ShownAs r) shown-so
+  pub reasons-c : Reasoned (ShownAs r) (slateFrom (a .0)) (now (a .1 .0))
+  reasons-c = reasoned (slateFrom (a .0)) (now (a .1 .0)) (ShownAs r) shown-so
 
   -- what is told of no refusal is none
-  not-refused : (n b q : ℕ) → reasonOf (slateIn (a .0)) (now (a .1 .0)) ≡ refuses (turned n b q) → n ≡ 0 → ⊥
+  not-refused : (n b q : ℕ) → reasonOf (slateFrom (a .0)) (now (a .1 .0)) ≡ refuses (turned n b q) → n ≡ 0 → ⊥
   unfolding reasonOf
-  not-refused n b q e z = none-fine n b q (refuses-in (asking (slateIn (a .0)) (now (a .1 .0))) (in-asking (slateIn (a .0)) (now (a .1 .0))) (comparing (slateIn (a .0)) (factsOf (now (a .1 .0)))) (turned n b q) e) z
+  not-refused n b q e z = none-fine n b q (refuses-in (asking (slateFrom (a .0)) (now (a .1 .0))) (in-asking (slateFrom (a .0)) (now (a .1 .0))) (comparing (slateFrom (a .0)) (factsOf (now (a .1 .0)))) (turned n b q) e) z
 
   -- no refusal and no part: they agree
-  pub agrees-c : r .refusal ≡ 0 → r .part ≡ 0 → Agreed (slateIn (a .0)) (now (a .1 .0))
-  agrees-c z y = go (reasonOf (slateIn (a .0)) (now (a .1 .0))) refl shown-so
+  pub agrees-c : r .refusal ≡ 0 → r .part ≡ 0 → Agreed (slateFrom (a .0)) (now (a .1 .0))
+  agrees-c z y = go (reasonOf (slateFrom (a .0)) (now (a .1 .0))) refl shown-so
     where
-      go : (x : Reply Compared) → reasonOf (slateIn (a .0)) (now (a .1 .0)) ≡ x → ShownAs r x → Agreed (slateIn (a .0)) (now (a .1 .0))
-      go (says Agrees) e h = agreed (slateIn (a .0)) (now (a .1 .0)) e
+      go : (x : Reply Compared) → reasonOf (slateFrom (a .0)) (now (a .1 .0)) ≡ x → ShownAs r x → Agreed (slateFrom (a .0)) (now (a .1 .0))
+      go (says Agrees) e h = agreed (slateFrom (a .0)) (now (a .1 .0)) e
       go (says (Differs d)) e h = absurd (rank-some (d .part) (sym (ap (λ (w : HsdWhy). w .part) h) ∙ y))
       go (refuses (turned n b q)) e h = absurd (not-refused n b q e (sym (ap (λ (w : HsdWhy). w .refusal) h) ∙ z))
 
   -- no refusal and a part: it is the first disagreement, with the values told
-  pub differs-c : r .refusal ≡ 0 → (r .part ≡ 0 → ⊥) → (d : Difference) × (Differed (slateIn (a .0)) (now (a .1 .0)) d × (r .part ≡ rank (d .part)) × (r .slate ≡ d .slate) × (r .file ≡ d .file))
-  differs-c z y = go (reasonOf (slateIn (a .0)) (now (a .1 .0))) refl shown-so
+  pub differs-c : r .refusal ≡ 0 → (r .part ≡ 0 → ⊥) → (d : Difference) × (Differed (slateFrom (a .0)) (now (a .1 .0)) d × (r .part ≡ rank (d .part)) × (r .slate ≡ d .slate) × (r .file ≡ d .file))
+  differs-c z y = go (reasonOf (slateFrom (a .0)) (now (a .1 .0))) refl shown-so
     where
-      go : (x : Reply Compared) → reasonOf (slateIn (a .0)) (now (a .1 .0)) ≡ x → ShownAs r x → (d : Difference) × (Differed (slateIn (a .0)) (now (a .1 .0)) d × (r .part ≡ rank (d .part)) × (r .slate ≡ d .slate) × (r .file ≡ d .file))
+      go : (x : Reply Compared) → reasonOf (slateFrom (a .0)) (now (a .1 .0)) ≡ x → ShownAs r x → (d : Difference) × (Differed (slateFrom (a .0)) (now (a .1 .0)) d × (r .part ≡ rank (d .part)) × (r .slate ≡ d .slate) × (r .file ≡ d .file))
       go (says Agrees) e h = absurd (y (ap (λ (w : HsdWhy). w .part) h))
-      go (says (Differs d)) e h = (d, (differed (slateIn (a .0)) (now (a .1 .0)) e, ap (λ (w : HsdWhy). w .part) h, ap (λ (w : HsdWhy). w .slate) h, ap (λ (w : HsdWhy). w .file) h))
+      go (says (Differs d)) e h = (d, (differed (slateFrom (a .0)) (now (a .1 .0)) e, ap (λ (w : HsdWhy). w .part) h, ap (λ (w : HsdWhy). w .slate) h, ap (λ (w : HsdWhy). w .file) h))
       go (refuses (turned n b q)) e h = absurd (not-refused n b q e (sym (ap (λ (w : HsdWhy). w .refusal) h) ∙ z))
 
   pub never-c : r .refusal ≡ 0 → r .part ≡ 0 → NeverC (a .0) (now (a .1 .0))
@@ -110,12 +110,12 @@ module _ (κ : _) (a : _) (r : _) (t : _) (p : hsd-why.Post κ a r t) where
   unfolding shownRuling
   always-c z y κ' o r' t' p' es ef h =
       let w = differs-c z y .1 .0 in
-      let e = answered-c κ' o r' t' p' es ef ∙ ap shownRuling (other-c (a .0) (now (a .1 .0)) (w .slate) (w .file) (now (o .1 .0)) (length (now (o .1 .1 .0))) (ap isAgrees (one-differs (slateIn (a .0)) (now (a .1 .0)) (w .first))) h) in
+      let e = answered-c κ' o r' t' p' es ef ∙ ap shownRuling (other-c (a .0) (now (a .1 .0)) (w .slate) (w .file) (now (o .1 .0)) (length (now (o .1 .1 .0))) (ap isAgrees (one-differs (slateFrom (a .0)) (now (a .1 .0)) (w .first))) h) in
       (ap (λ (x : HsdAnswer). x .refusal) e, ap (λ (x : HsdAnswer). x .block) e, ap (λ (x : HsdAnswer). x .offset) e)
 
-  pub agrees-exactly-c : Good (slateIn (a .0)) → Accepted (now (a .1 .0)) → ((r .refusal ≡ 0) × (r .part ≡ 0)) ↔ NeverC (a .0) (now (a .1 .0))
+  pub agrees-exactly-c : Good (slateFrom (a .0)) → Accepted (now (a .1 .0)) → ((r .refusal ≡ 0) × (r .part ≡ 0)) ↔ NeverC (a .0) (now (a .1 .0))
   agrees-exactly-c g ok = (
     λ h. never-c (h .0) (h .1),
-    λ h. let e = reasons-c .agrees g ok (match-exactly (slateIn (a .0)) (factsOf (now (a .1 .0))) .0 (never-match-c (κ .0) (a .0) (a .1 .0) g ok h)) in
+    λ h. let e = reasons-c .agrees g ok (match-exactly (slateFrom (a .0)) (factsOf (now (a .1 .0))) .0 (never-match-c (κ .0) (a .0) (a .1 .0) g ok h)) in
         (ap (λ (x : HsdWhy). x .refusal) e, ap (λ (x : HsdWhy). x .part) e),
   )

@@ -8,6 +8,7 @@ use Rattle.wire.specs.Wire.{digits}
 use Rattle.accept.specs.declared.Facts.{Facts}
 use Rattle.slate.specs.declared.Slate.{Slate}
 use Rattle.frame.specs.Records.{marked}
+use Rattle.plugin_frames.specs.declared.HsdSlate.{HsdSlate}
 use Rattle.tiling.specs.Lawful.{Area, Timeline}
 
 -- good when each part is in range (day 51,544 to 88,068), L is at least 1 and N x L is at most 22,000
@@ -37,6 +38,19 @@ pub record Match (s : Slate) (f : Facts) : Type 0 where
   pub total : f .total ≡ s .total
   pub lines : f .lines ≡ s .lines
   pub first : f .first ≡ 1 + (f .number - 1) * s .lines
+
+-- a slate in C's struct: each number under its name
+abbrev pub slateFrom : HsdSlate → Slate
+slateFrom s = record {
+  satellite = s .satellite;
+  day = s .day;
+  timeline = s .timeline;
+  band = s .band;
+  area = s .area;
+  columns = s .columns;
+  total = s .total;
+  lines = s .lines;
+}
 
 -- how many of the n numbers from k on are marked
 abbrev pub howMany : List Bool → ℕ → ℕ → ℕ
