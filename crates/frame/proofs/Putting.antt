@@ -8,7 +8,6 @@ use native.Mathlib.Nat.{mul-comm}
 use native.Mathlib.Omega.{arith}
 use borrow.Rule.Slice.PartMut.{putMid, post-is}
 use borrow.Author.Tests.{eqb-true}
-use lib.Dec.{eqb}
 use lib.ListN.{length, take, drop, length-drop}
 use Rattle.rules.specs.Rules.{fine, judge}
 use Rattle.rules.proofs.Judge.{exactly, each-is}

@@ -73,7 +73,7 @@ use Rattle.plugin_frames.proofs.hsd_line.Reads as hsd-line
 use Rattle.plugin_frames.proofs.hsd_why.Reads as hsd-why
 use Rattle.promises.specs.Bare.{Bare}
 use Rattle.promises.specs.Blocks.{allowed, allowedC, inTable, Onward}
-use Rattle.promises.proofs.Refusals.{refused-in, refuses-in, left, in-append, onward, shown-allowed, shown-left, none-left, file-allowed, number-allowed, bare, no-number, reel-allowed, no-files, why-allowed, no-part}
+use Rattle.promises.proofs.Refusals.{refused-in, refuses-in, left, in-append, onward, shown-allowed, shown-left, none-left, reply-allowed, file-shows, number-shows, reel-shows, why-shows, bare, no-number, no-files, no-part}
 
 -- ---- every table is the paper's
 
@@ -252,7 +252,7 @@ pub of-hsd-reel-open : (κ : _) (a : _) (r : _) (t : _) → hsd-reel-open.Post �
 unfolding opened
 of-hsd-reel-open κ a r t p =
     let s = now (a .0) in
-    rw p (reel-allowed (reels.opening s) (in-reel s) _ _ refl, no-files (judge fine (reels.opening s)) _)
+    rw p (reply-allowed reel-shows (reels.opening s) (in-reel s) _ _ refl, no-files (judge fine (reels.opening s)) _)
 
 pub of-hsd-reel-write : (κ : _) (a : _) (r : _) (t : _) → hsd-reel-write.Post κ a r t
     → (allowedC (r .refusal) (r .block) (r .offset) ≡ true) × ((r .refusal ≡ 0 → ⊥) → now (t .1 .1 .0) ≡ now (a .1 .1 .0))
@@ -321,13 +321,13 @@ in-lent ok rs h = in-append rs [] h refl
 pub of-hsd-accept : (κ : _) (a : _) (r : _) (t : _) → hsd-accept.Post κ a r t → (allowedC (r .refusal) (r .block) (r .offset) ≡ true) × ((r .refusal ≡ 0 → ⊥) → Bare r)
 unfolding answerOf
 of-hsd-accept κ a r t p =
-    rw p (file-allowed (checks (now (a .0))) (in-checks (now (a .0))) _ (factsOf (now (a .0))) refl, bare (judge fine (checks (now (a .0)))) (factsOf (now (a .0))))
+    rw p (reply-allowed file-shows (checks (now (a .0))) (in-checks (now (a .0))) _ (factsOf (now (a .0))) refl, bare (judge fine (checks (now (a .0)))) (factsOf (now (a .0))))
 
 pub of-hsd-frame-number : (κ : _) (a : _) (r : _) (t : _) → hsd-frame-number.Post κ a r t → (allowedC (r .refusal) (r .block) (r .offset) ≡ true) × ((r .refusal ≡ 0 → ⊥) → r .number ≡ pos 0)
 unfolding filmFrameOf shots inTable allowed
 of-hsd-frame-number κ a r t p =
     let rows = shots (a .0) (a .1 .0) (a .1 .1 .0) (a .1 .1 .1 .0) in
-    rw p (number-allowed rows refl _ _ refl, no-number (judge fine rows) _)
+    rw p (reply-allowed number-shows rows refl _ _ refl, no-number (judge fine rows) _)
 
 pub of-hsd-open : (κ : _) (a : _) (r : _) (t : _) → hsd-open.Post κ a r t
     → (allowedC (r .refusal) (r .block) (r .offset) ≡ true) × ((r .refusal ≡ 0 → ⊥) → (now (t .1 .0) ≡ now (a .1 .0)) × (now (t .1 .1 .0) ≡ now (a .1 .1 .0)))
@@ -362,7 +362,7 @@ pub of-hsd-why : (κ : _) (a : _) (r : _) (t : _) → hsd-why.Post κ a r t
 unfolding reasonOf
 of-hsd-why κ a r t p =
     let rows = asking (slateIn (a .0)) (now (a .1 .0)) in
-    rw p (why-allowed rows (in-asking _ _) _ _ refl, no-part (judge fine rows) _)
+    rw p (reply-allowed why-shows rows (in-asking _ _) _ _ refl, no-part (judge fine rows) _)
 
 -- ---- night totals: what is lent is the file alone, and the run goes by value (Night: `Adds` says what a refusal leaves of it)
 

@@ -13,7 +13,6 @@ use native.Mathlib.Omega.{arith}
 use lib.ListN.{length, take, drop}
 use lib.Seq.{take-at}
 use lib.Dec.{eqb}
-use lib.IntN.{ℤ}
 use borrow.Author.Tests.{eqb-true, le-ltb}
 use denote.Ref.{now}
 use Rattle.wire.specs.Wire.{join}
@@ -22,10 +21,7 @@ use Rattle.rules.proofs.Judge.{first-fails, turned-away}
 use Rattle.calendar.specs.Shots.{shot, paperSlot, shots, paperFrame, filmFrameOf}
 use Rattle.header.specs.Values.{block1Of, block2Of, block5Of, block7Of}
 use Rattle.accept.specs.Checks.{shape, entries, shape1, fields1, fixed2, fields2, fixed5, fields5, fields7, sums, names, ends, blocks1to4, blocks5to7, blocks8to11, whole, checks}
-use Rattle.accept.specs.declared.Facts.{Facts}
 use Rattle.accept.specs.Answers.{factsOf, paperAnswer, answerOf}
-use Rattle.slate.specs.declared.Compared.{Compared}
-use Rattle.slate.specs.declared.Compared.the-variants.{Agrees, Differs}
 use Rattle.slate.specs.Slates.{slated, asking, paperReason, reasonOf}
 use Rattle.slate.proofs.Slate.why.Reads as why
 use Rattle.frame.specs.Frames.{ready, placing, offering}
@@ -38,10 +34,8 @@ use Rattle.format.specs.Texts.{decimal}
 use Rattle.listing.specs.Lines.{width, numeral, refusalWords, lineWords, Listed}
 use Rattle.listing.specs.Lines as listing
 use Rattle.tiling.specs.Lawful.{text}
-use Rattle.plugin.specs.Plugin.{shownRuling, shownFile, shownFrame}
+use Rattle.plugin.specs.Plugin.{shownRuling}
 use Rattle.plugin_frames.specs.Strips.{slateIn, lent, offeredC}
-use Rattle.plugin_frames.specs.Reasons.{shownReason}
-use Rattle.plugin_reels.specs.Reels.{shownReel}
 use Rattle.calendar.proofs.slot.Reads as slot
 use Rattle.calendar.proofs.frame_number.Reads as frame-number
 use Rattle.accept.proofs.verdict.Reads as verdict
@@ -66,6 +60,7 @@ use Rattle.plugin_reels.proofs.hsd_reel_seal.Reads as hsd-reel-seal
 use Rattle.promises.specs.Blocks.{allowed}
 use Rattle.promises.specs.Fields.{fields, slotFields, filmFields, Concerns, none, one, offsetOf, refusedLine}
 use Rattle.promises.specs.Reels.{Laid, Handed}
+use Rattle.promises.proofs.Refusals.{reply-refused, file-shows, number-shows, reel-shows, why-shows}
 use Rattle.promises.proofs.First as first
 use Rattle.promises.proofs.Reeled.{laid-has, handed-listed}
 
@@ -255,34 +250,9 @@ unfolding shownRuling
 shown-ruling fine h = absurd (h refl)
 shown-ruling (refused (turned n b p)) h = refl
 
-shown-file : (v : Ruling) (x : Facts) → (shownFile (reply v x) .refusal ≡ 0 → ⊥)
-    → v ≡ refused (turned (shownFile (reply v x) .refusal) (shownFile (reply v x) .block) (shownFile (reply v x) .offset))
-unfolding shownFile reply
-shown-file fine x h = absurd (h refl)
-shown-file (refused (turned n b p)) x h = refl
-
-shown-reel : (v : Ruling) (x : ℕ) → (shownReel (reply v x) .refusal ≡ 0 → ⊥)
-    → v ≡ refused (turned (shownReel (reply v x) .refusal) (shownReel (reply v x) .block) (shownReel (reply v x) .offset))
-unfolding shownReel reply
-shown-reel fine x h = absurd (h refl)
-shown-reel (refused (turned n b p)) x h = refl
-
-shown-frame : (v : Ruling) (x : ℤ) → (shownFrame (reply v x) .refusal ≡ 0 → ⊥)
-    → v ≡ refused (turned (shownFrame (reply v x) .refusal) (shownFrame (reply v x) .block) (shownFrame (reply v x) .offset))
-unfolding shownFrame reply
-shown-frame fine x h = absurd (h refl)
-shown-frame (refused (turned n b p)) x h = refl
-
-shown-why : (v : Ruling) (x : Compared) → (shownReason (reply v x) .refusal ≡ 0 → ⊥)
-    → v ≡ refused (turned (shownReason (reply v x) .refusal) (shownReason (reply v x) .block) (shownReason (reply v x) .offset))
-unfolding shownReason reply
-shown-why fine Agrees h = absurd (h refl)
-shown-why fine (Differs d) h = absurd (h refl)
-shown-why (refused (turned n b p)) x h = refl
-
 pub of-hsd-accept : (κ : _) (a : _) (r : _) (t : _) → hsd-accept.Post κ a r t → (r .refusal ≡ 0 → ⊥) → First (fields (now (a .0))) (turned (r .refusal) (r .block) (r .offset))
 unfolding answerOf
-of-hsd-accept κ a r t p = rw p (λ h. rw (← fields-are (now (a .0))) (first-fails (checks (now (a .0))) _ .0 (shown-file (judge fine (checks (now (a .0)))) (factsOf (now (a .0))) h)))
+of-hsd-accept κ a r t p = rw p (λ h. rw (← fields-are (now (a .0))) (first-fails (checks (now (a .0))) _ .0 (reply-refused file-shows (judge fine (checks (now (a .0)))) (factsOf (now (a .0))) h)))
 
 lent-for : (ok : Bool) (s : _) (marks : _) (size : ℕ) (f : File) (u : Turned) → First (tables (lent ok ∷ offering s marks size f ∷ [])) u → Concerns (f ∷ []) u
 unfolding tables lent
@@ -293,11 +263,11 @@ of-hsd-offer κ a r t p = rw (p .0) (λ h. lent-for _ _ _ _ _ _ (first-fails _ _
 
 pub of-hsd-why : (κ : _) (a : _) (r : _) (t : _) → hsd-why.Post κ a r t → (r .refusal ≡ 0 → ⊥) → Concerns (now (a .1 .0) ∷ []) (turned (r .refusal) (r .block) (r .offset))
 unfolding reasonOf
-of-hsd-why κ a r t p = rw p (λ h. asked-for _ _ _ (first-fails _ _ .0 (shown-why (judge fine (asking (slateIn (a .0)) (now (a .1 .0)))) _ h)))
+of-hsd-why κ a r t p = rw p (λ h. asked-for _ _ _ (first-fails _ _ .0 (reply-refused why-shows (judge fine (asking (slateIn (a .0)) (now (a .1 .0)))) _ h)))
 
 pub of-hsd-reel-open : (κ : _) (a : _) (r : _) (t : _) → hsd-reel-open.Post κ a r t → {ps : List File} → Laid (now (a .0)) ps → (r .refusal ≡ 0 → ⊥) → Concerns ps (turned (r .refusal) (r .block) (r .offset))
 unfolding opened
-of-hsd-reel-open κ a r t p l = rw (p, ← laid-has l .parts) (λ h. opened-of (now (a .0)) _ (shown-reel (judge fine (reels.opening (now (a .0)))) _ h))
+of-hsd-reel-open κ a r t p l = rw (p, ← laid-has l .parts) (λ h. opened-of (now (a .0)) _ (reply-refused reel-shows (judge fine (reels.opening (now (a .0)))) _ h))
 
 pub of-hsd-reel-write : (κ : _) (a : _) (r : _) (t : _) → hsd-reel-write.Post κ a r t → {fs : List File} → Handed (now (a .0)) (now (a .1 .0)) fs → (r .refusal ≡ 0 → ⊥) → Concerns fs (turned (r .refusal) (r .block) (r .offset))
 of-hsd-reel-write κ a r t p h = rw (p .0, ← handed-listed h) (λ z. wrote-of _ _ _ _ _ (shown-ruling _ z))
@@ -308,7 +278,7 @@ of-hsd-reel-seal κ a r t p h = rw (p .0, ← handed-listed h) (λ z. wrote-of _
 pub of-hsd-frame-number : (κ : _) (a : _) (r : _) (t : _) → hsd-frame-number.Post κ a r t → (r .refusal ≡ 0 → ⊥)
     → First (filmFields (a .0) (a .1 .0) (a .1 .1 .0) (a .1 .1 .1 .0)) (turned (r .refusal) (r .block) (r .offset))
 unfolding filmFrameOf shots
-of-hsd-frame-number κ a r t p = rw p (λ h. first-fails (shots (a .0) (a .1 .0) (a .1 .1 .0) (a .1 .1 .1 .0)) _ .0 (shown-frame (judge fine (shots (a .0) (a .1 .0) (a .1 .1 .0) (a .1 .1 .1 .0))) _ h))
+of-hsd-frame-number κ a r t p = rw p (λ h. first-fails (shots (a .0) (a .1 .0) (a .1 .1 .0) (a .1 .1 .1 .0)) _ .0 (reply-refused number-shows (judge fine (shots (a .0) (a .1 .0) (a .1 .1 .0) (a .1 .1 .1 .0))) _ h))
 
 pub of-hsd-night-add : (κ : _) (a : _) (r : _) (t : _) → hsd-night-add.Post κ a r t → (r .refusal ≡ 0 → ⊥) → Concerns (now (a .1 .0) ∷ []) (turned (r .refusal) (r .block) (r .offset))
 of-hsd-night-add κ a r t p = rw p (λ h. added-for _ _ _ (first-fails _ _ .0 (shown-ruling (nights.added (runIn (a .0)) (now (a .1 .0))) h)))

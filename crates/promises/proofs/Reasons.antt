@@ -3,15 +3,14 @@
 use mathlib.Core.Path.{_≡_, refl, sym, ap, subst, _∙_}
 use mathlib.Core.Bool.{Bool, true, false, cond}
 use mathlib.Core.List.{List, [], _∷_}
-use Prim.Native.Nat.{ℕ, _+_, _*_, _-_}
+use Prim.Native.Nat.{ℕ, _*_, _-_}
 use native.Mathlib.Nat.{add-comm}
 use native.Mathlib.Omega.{arith}
 use lib.Dec.{eqb}
 use borrow.Author.Tests.{eqb-true, eqb-false, eq-eqb, ne-eqb}
-use Rattle.rules.specs.Rules.{Turned, turned, fine, refused, judge, here, tables, Reply, says, refuses, reply}
-use Rattle.rules.proofs.Judge.{exactly, each-is, each-of, holds, first-fails, first-table, said}
+use Rattle.rules.specs.Rules.{turned, fine, judge, here, Reply, says, refuses, reply}
+use Rattle.rules.proofs.Judge.{said}
 use Rattle.accept.specs.declared.Facts.{Facts}
-use Rattle.accept.specs.Checks.{checks}
 use Rattle.accept.specs.Answers.{factsOf}
 use Rattle.slate.specs.declared.Slate.{Slate}
 use Rattle.slate.specs.declared.Part.{Part}
@@ -21,13 +20,12 @@ use Rattle.slate.specs.declared.Compared.{Compared}
 use Rattle.slate.specs.declared.Compared.the-variants.{Agrees, Differs}
 use Rattle.slate.specs.Cut.{heightOf, linesTo}
 use Rattle.slate.specs.Parts.{Sides, sides, further, compareAll, shotParts, cutParts, parts, comparing, isAgrees}
-use Rattle.slate.specs.Slates.{goodSlate, slated, asking, reasonOf}
+use Rattle.slate.specs.Slates.{asking, reasonOf}
 use Rattle.plugin_frames.specs.Reasons.{shownReason}
-use Rattle.promises.specs.Reels.{Own}
-use Rattle.promises.specs.Slated.{Good, Match}
-use Rattle.promises.specs.Why.{nine, Disagreement, Accepted, Reasoned, Agreed, Differed, rank, ShownAs}
+use Rattle.promises.specs.Slated.{Match}
+use Rattle.promises.specs.Why.{nine, Disagreement, Reasoned, Agreed, Differed, rank, ShownWhy}
 use Rattle.promises.specs.Why as words
-use Rattle.promises.proofs.Slated.{good-exactly, match-exactly}
+use Rattle.promises.proofs.Slated.{match-exactly, slate-first, then-file, both-good, good-both}
 
 -- ---- the first disagreement
 
@@ -67,31 +65,7 @@ agrees-is (Differs d) e = absurd (let z : _≡_ {A = ℕ} 0 1 = cc in omega arit
 
 -- ---- what is said
 
-bad-is : (s : Slate) → (Good s → ⊥) → goodSlate s ≡ false
-bad-is s h = go (goodSlate s) refl
-  where
-    go : (b : Bool) → goodSlate s ≡ b → b ≡ false
-    go true e = absurd (h (good-exactly s .0 e))
-    go false e = refl
-
 module _ (s : Slate) (f : List ℕ) where
-  -- nothing is refused exactly where slate and file are good
-  both-good : Good s → Accepted f → judge fine (asking s f) ≡ fine
-  unfolding asking slated
-  both-good g a = exactly (asking s f) .1 (each-of (slated s ∷ checks f ∷ []) (holds (holds (good-exactly s .1 g) tt) (holds (exactly (checks f) .0 a) tt)))
-
-  good-both : judge fine (asking s f) ≡ fine → Good s × Accepted f
-  unfolding asking slated
-  good-both e = let h = each-is (slated s ∷ checks f ∷ []) (exactly (asking s f) .0 e) in (good-exactly s .0 (h .0 .0), exactly (checks f) .1 (h .1 .0))
-
-  slate-first : (Good s → ⊥) → judge fine (asking s f) ≡ refused (turned 13 0 0)
-  unfolding asking slated tables
-  slate-first h = first-fails (asking s f) (turned 13 0 0) .1 (here (bad-is s h))
-
-  then-file : Good s → (u : Turned) → Own f u → judge fine (asking s f) ≡ refused u
-  unfolding asking slated
-  then-file g u o = first-fails (asking s f) u .1 (first-table (slated s ∷ []) (checks f) [] (holds (holds (good-exactly s .1 g) tt) tt) (first-fails (checks f) u .0 o))
-
   pub all-agree : Match s (factsOf f) → comparing s (factsOf f) ≡ Agrees
   all-agree m = agrees-is (comparing s (factsOf f)) (match-exactly s (factsOf f) .1 m)
 
@@ -101,29 +75,29 @@ module _ (s : Slate) (f : List ℕ) where
   pub reasoned : (Says : Reply Compared → Type 0) → Says (reasonOf s f) → Reasoned Says s f
   unfolding reasonOf reply
   reasoned Says h = record {
-    bad = λ b. (rw (slate-first b) at h);
-    own = λ g u o. (rw (then-file g u o) at h);
-    agrees = λ g a m. (rw (both-good g a, all-agree m) at h);
-    differs = λ g a d q. (rw (both-good g a, one-differs q) at h);
+    bad = λ b. (rw (slate-first s f b) at h);
+    own = λ g u o. (rw (then-file s f g u o) at h);
+    agrees = λ g a m. (rw (both-good s f g a, all-agree m) at h);
+    differs = λ g a d q. (rw (both-good s f g a, one-differs q) at h);
   }
 
   pub agreed : reasonOf s f ≡ says Agrees → Agreed s f
   unfolding reasonOf
   agreed e =
       let r = said (judge fine (asking s f)) (comparing s (factsOf f)) Agrees e in
-      let g = good-both (r .0) in
+      let g = good-both s f (r .0) in
       record { slate = g .0; file = g .1; match = match-exactly s (factsOf f) .0 (ap isAgrees (r .1)) }
 
   pub differed : {d : Difference} → reasonOf s f ≡ says (Differs d) → Differed s f d
   unfolding reasonOf
   differed {d} e =
       let r = said (judge fine (asking s f)) (comparing s (factsOf f)) (Differs d) e in
-      let g = good-both (r .0) in
+      let g = good-both s f (r .0) in
       record { slate = g .0; file = g .1; first = subst (λ (ps : List Sides). Disagreement ps d) (nine-are s (factsOf f)) (first-is (parts s (factsOf f)) d (r .1)) }
 
 -- ---- in C's numbers
 
-pub shown-as : (x : Reply Compared) → ShownAs (shownReason x) x
+pub shown-as : (x : Reply Compared) → ShownWhy (shownReason x) x
 unfolding shownReason
 shown-as (says Agrees) = refl
 shown-as (says (Differs d)) = refl

@@ -5,18 +5,22 @@ use mathlib.Core.Bool.{Bool, true, false, not, cond, _&&_, _||_, and-eq-true-iff
 use mathlib.Core.List.{List, [], _∷_, _++_}
 use Prim.Native.Nat.{ℕ}
 use native.Mathlib.Omega.{arith}
-use Rattle.rules.specs.Rules.{Turned, turned, Row, test, Ruling, fine, refused, judge, checked, after, refuses, reply}
+use Rattle.rules.specs.Rules.{Turned, turned, Row, test, Ruling, fine, refused, judge, checked, after, Reply, says, refuses, reply}
 use Rattle.rules.proofs.Judge.{judge-refused, turned-away}
 use lib.Dec.{eqb, leb}
 use borrow.Author.Tests.{eqb-true}
 use lib.ListN.{length, drop}
 use lib.IntN.{ℤ, pos}
 use Rattle.accept.specs.declared.Facts.{Facts}
+use Rattle.plugin.specs.declared.HsdFile.{HsdFile}
+use Rattle.plugin.specs.declared.HsdFrameNumber.{HsdFrameNumber}
 use Rattle.plugin.specs.Plugin.{shownRuling, shownFile, shownFrame}
 use Rattle.slate.specs.declared.Compared.{Compared}
 use Rattle.slate.specs.declared.Compared.the-variants.{Agrees, Differs}
 use Rattle.plugin_frames.specs.Strips.{copiedOf, copyOf}
+use Rattle.plugin_frames.specs.declared.HsdWhy.{HsdWhy}
 use Rattle.plugin_frames.specs.Reasons.{shownReason}
+use Rattle.plugin_reels.specs.declared.HsdReel.{HsdReel}
 use Rattle.plugin_reels.specs.Reels.{shownReel}
 use Rattle.promises.specs.Bare.{Bare}
 use Rattle.promises.specs.Blocks.{table, listed, allowed, allowedC, inTable, Onward}
@@ -81,16 +85,6 @@ none-left (x ∷ line) out e = go (leb (length (x ∷ line)) (length out)) e
     go true h = absurd (omega arith)
     go false h = refl
 
-pub file-allowed : (rs : List Row) → inTable rs ≡ true → (v : Ruling) (x : Facts) → v ≡ judge fine rs → allowedC (shownFile (reply v x) .refusal) (shownFile (reply v x) .block) (shownFile (reply v x) .offset) ≡ true
-unfolding shownFile reply
-file-allowed rs h fine x e = refl
-file-allowed rs h (refused (turned n b p)) x e = rw (refused-in rs h (turned n b p) (sym e)) (or-true (eqb n 0))
-
-pub number-allowed : (rs : List Row) → inTable rs ≡ true → (v : Ruling) (x : ℤ) → v ≡ judge fine rs → allowedC (shownFrame (reply v x) .refusal) (shownFrame (reply v x) .block) (shownFrame (reply v x) .offset) ≡ true
-unfolding shownFrame reply
-number-allowed rs h fine x e = refl
-number-allowed rs h (refused (turned n b p)) x e = rw (refused-in rs h (turned n b p) (sym e)) (or-true (eqb n 0))
-
 -- what holds of every number of the table holds of one that is allowed
 abbrev Numbers : (ℕ → Bool) → List (ℕ × List ℕ) → Bool
 Numbers good [] = true
@@ -117,12 +111,53 @@ none-fine n b p h e =
     let q : _≡_ {A = ℕ} 0 1 = cc in
     omega arith
 
-pub file-fine : (rs : List Row) → inTable rs ≡ true → (v : Ruling) (x : Facts) → v ≡ judge fine rs → shownFile (reply v x) .refusal ≡ 0 → v ≡ fine
-unfolding shownFile reply
-file-fine rs h fine x e z = refl
-file-fine rs h (refused (turned n b p)) x e z = absurd (none-fine n b p (refused-in rs h (turned n b p) (sym e)) z)
+-- ---- replies in C's numbers: a value has no refusal, and a refusal its three numbers
 
--- the answer to a refused file, and a frame number that is refused, show nothing else
+pub record Shows {A R : Type 0} (show : Reply A → R) (refusal block offset : R → ℕ) : Type 0 where
+  pub value : (x : A) → refusal (show (says x)) ≡ 0
+  pub number : (n b p : ℕ) → refusal (show (refuses (turned n b p))) ≡ n
+  pub in-block : (n b p : ℕ) → block (show (refuses (turned n b p))) ≡ b
+  pub at-offset : (n b p : ℕ) → offset (show (refuses (turned n b p))) ≡ p
+
+module _ {A R : Type 0} {show : Reply A → R} {refusal block offset : R → ℕ} (c : Shows show refusal block offset) where
+  pub reply-allowed : (rs : List Row) → inTable rs ≡ true → (v : Ruling) (x : A) → v ≡ judge fine rs → allowedC (refusal (show (reply v x))) (block (show (reply v x))) (offset (show (reply v x))) ≡ true
+  unfolding reply
+  reply-allowed rs h fine x e = rw (c .value x)
+  reply-allowed rs h (refused (turned n b p)) x e = rw (c .number n b p, c .in-block n b p, c .at-offset n b p, refused-in rs h (turned n b p) (sym e)) (or-true (eqb n 0))
+
+  pub reply-fine : (rs : List Row) → inTable rs ≡ true → (v : Ruling) (x : A) → v ≡ judge fine rs → refusal (show (reply v x)) ≡ 0 → v ≡ fine
+  unfolding reply
+  reply-fine rs h fine x e z = refl
+  reply-fine rs h (refused (turned n b p)) x e z = absurd (none-fine n b p (refused-in rs h (turned n b p) (sym e)) (sym (c .number n b p) ∙ z))
+
+  pub reply-refused : (v : Ruling) (x : A) → (refusal (show (reply v x)) ≡ 0 → ⊥) → v ≡ refused (turned (refusal (show (reply v x))) (block (show (reply v x))) (offset (show (reply v x))))
+  unfolding reply
+  reply-refused fine x h = absurd (h (c .value x))
+  reply-refused (refused (turned n b p)) x h = rw (c .number n b p, c .in-block n b p, c .at-offset n b p)
+
+pub file-shows : Shows shownFile (λ (r : HsdFile). r .refusal) (λ (r : HsdFile). r .block) (λ (r : HsdFile). r .offset)
+unfolding shownFile
+file-shows = record { value = λ x. refl; number = λ n b p. refl; in-block = λ n b p. refl; at-offset = λ n b p. refl }
+
+pub number-shows : Shows shownFrame (λ (r : HsdFrameNumber). r .refusal) (λ (r : HsdFrameNumber). r .block) (λ (r : HsdFrameNumber). r .offset)
+unfolding shownFrame
+number-shows = record { value = λ x. refl; number = λ n b p. refl; in-block = λ n b p. refl; at-offset = λ n b p. refl }
+
+pub reel-shows : Shows shownReel (λ (r : HsdReel). r .refusal) (λ (r : HsdReel). r .block) (λ (r : HsdReel). r .offset)
+unfolding shownReel
+reel-shows = record { value = λ x. refl; number = λ n b p. refl; in-block = λ n b p. refl; at-offset = λ n b p. refl }
+
+no-refusal : (x : Compared) → shownReason (says x) .refusal ≡ 0
+unfolding shownReason
+no-refusal Agrees = refl
+no-refusal (Differs d) = refl
+
+pub why-shows : Shows shownReason (λ (r : HsdWhy). r .refusal) (λ (r : HsdWhy). r .block) (λ (r : HsdWhy). r .offset)
+unfolding shownReason
+why-shows = record { value = no-refusal; number = λ n b p. refl; in-block = λ n b p. refl; at-offset = λ n b p. refl }
+
+-- ---- and a refusal shows nothing else
+
 pub bare : (v : Ruling) (x : Facts) → (shownFile (reply v x) .refusal ≡ 0 → ⊥) → Bare (shownFile (reply v x))
 unfolding shownFile reply
 bare fine x h = absurd (h refl)
@@ -150,23 +185,10 @@ unfolding shownFrame reply
 no-number fine x h = absurd (h refl)
 no-number (refused (turned n b p)) x h = refl
 
--- the same of a reel's answer
-pub reel-allowed : (rs : List Row) → inTable rs ≡ true → (v : Ruling) (x : ℕ) → v ≡ judge fine rs → allowedC (shownReel (reply v x) .refusal) (shownReel (reply v x) .block) (shownReel (reply v x) .offset) ≡ true
-unfolding shownReel reply
-reel-allowed rs h fine x e = refl
-reel-allowed rs h (refused (turned n b p)) x e = rw (refused-in rs h (turned n b p) (sym e)) (or-true (eqb n 0))
-
 pub no-files : (v : Ruling) (x : ℕ) → (shownReel (reply v x) .refusal ≡ 0 → ⊥) → shownReel (reply v x) .files ≡ 0
 unfolding shownReel reply
 no-files fine x h = absurd (h refl)
 no-files (refused (turned n b p)) x h = refl
-
--- and of why
-pub why-allowed : (rs : List Row) → inTable rs ≡ true → (v : Ruling) (x : Compared) → v ≡ judge fine rs → allowedC (shownReason (reply v x) .refusal) (shownReason (reply v x) .block) (shownReason (reply v x) .offset) ≡ true
-unfolding shownReason reply
-why-allowed rs h fine Agrees e = refl
-why-allowed rs h fine (Differs d) e = refl
-why-allowed rs h (refused (turned n b p)) x e = rw (refused-in rs h (turned n b p) (sym e)) (or-true (eqb n 0))
 
 pub no-part : (v : Ruling) (x : Compared) → (shownReason (reply v x) .refusal ≡ 0 → ⊥) → (shownReason (reply v x) .part ≡ 0) × (shownReason (reply v x) .slate ≡ 0) × (shownReason (reply v x) .file ≡ 0)
 unfolding shownReason reply

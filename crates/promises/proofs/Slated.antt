@@ -1,11 +1,11 @@
 -- A slate is good, and a file matches it, exactly where document 01 says so. Assumes nothing.
 use mathlib.Core.Path.{_≡_, refl, sym, _∙_}
-use mathlib.Core.Logic.{_↔_, _⊎_, ⊎-elim, inl, inr}
+use mathlib.Core.Logic.{_↔_, ⊎-elim, inl, inr}
 use mathlib.Core.Bool.{Bool, true, false, _&&_, _||_}
 use Prim.Native.Nat.{ℕ, zero, suc, _+_, _*_, _-_, _≤_, _<_}
 use native.Mathlib.Nat.{add-comm}
 use native.Mathlib.Omega.{arith}
-use mathlib.Core.List.{List}
+use mathlib.Core.List.{List, [], _∷_}
 use lib.Dec.{eqb, leb}
 use lib.ListN.{length, getD}
 use denote.Ref.{now}
@@ -19,11 +19,11 @@ use Rattle.accept.specs.declared.Facts.{Facts}
 use Rattle.slate.specs.declared.Slate.{Slate}
 use Rattle.slate.specs.Cut.{heightOf, linesTo, goodCut}
 use Rattle.slate.specs.Parts.{shotParts, cutParts, parts}
-use Rattle.slate.specs.Slates.{goodShot, goodSlate, slated, matching}
+use Rattle.slate.specs.Slates.{goodShot, goodSlate, slated, matching, asking}
 use Rattle.slate.proofs.Parts.{same-exactly}
 use Rattle.tiling.proofs.Lawful.{both, and, either, or-left, or-right, timeline-is, timeline-of, area-is, area-of}
-use Rattle.rules.specs.Rules.{Ruling, fine, refused, judge, paper}
-use Rattle.rules.proofs.Judge.{exactly, each-is, holds}
+use Rattle.rules.specs.Rules.{Turned, turned, Ruling, fine, refused, judge, here, tables, paper}
+use Rattle.rules.proofs.Judge.{exactly, each-is, each-of, holds, first-fails, first-table}
 use Rattle.accept.specs.Checks.{checks}
 use Rattle.accept.specs.Answers.{factsOf}
 use Rattle.frame.specs.Frames.{ready, placing, offering}
@@ -31,6 +31,7 @@ use Rattle.frame.specs.Records.{marked, tallied, tallyOf}
 use Rattle.frame.proofs.offer.Reads as offer
 use Rattle.frame.proofs.tally.Reads as tally
 use Rattle.assembly.specs.History.{isFine, bears}
+use Rattle.promises.specs.Reels.{Own}
 use Rattle.promises.specs.Slated.{Good, Match, howMany}
 
 within : (least n most : ℕ) → (leb least n && leb n most) ≡ true → (least ≤ n) × (n ≤ most)
@@ -130,6 +131,33 @@ module _ (s : Slate) where
 
   pub good-exactly : (goodSlate s ≡ true) ↔ Good s
   good-exactly = (good-is, good-of)
+
+-- ---- asking why: the slate's refusal, then the file's own
+
+bad-is : (s : Slate) → (Good s → ⊥) → goodSlate s ≡ false
+bad-is s h = go (goodSlate s) refl
+  where
+    go : (b : Bool) → goodSlate s ≡ b → b ≡ false
+    go true e = absurd (h (good-exactly s .0 e))
+    go false e = refl
+
+module _ (s : Slate) (f : List ℕ) where
+  pub slate-first : (Good s → ⊥) → judge fine (asking s f) ≡ refused (turned 13 0 0)
+  unfolding asking slated tables
+  slate-first h = first-fails (asking s f) (turned 13 0 0) .1 (here (bad-is s h))
+
+  pub then-file : Good s → (u : Turned) → Own f u → judge fine (asking s f) ≡ refused u
+  unfolding asking slated
+  then-file g u o = first-fails (asking s f) u .1 (first-table (slated s ∷ []) (checks f) [] (holds (holds (good-exactly s .1 g) tt) tt) (first-fails (checks f) u .0 o))
+
+  -- nothing is refused exactly where both are good
+  pub both-good : Good s → judge fine (checks f) ≡ fine → judge fine (asking s f) ≡ fine
+  unfolding asking slated
+  both-good g a = exactly (asking s f) .1 (each-of (slated s ∷ checks f ∷ []) (holds (holds (good-exactly s .1 g) tt) (holds (exactly (checks f) .0 a) tt)))
+
+  pub good-both : judge fine (asking s f) ≡ fine → Good s × (judge fine (checks f) ≡ fine)
+  unfolding asking slated
+  good-both e = let h = each-is (slated s ∷ checks f ∷ []) (exactly (asking s f) .0 e) in (good-exactly s .0 (h .0 .0), exactly (checks f) .1 (h .1 .0))
 
 -- ---- what it is that a file bears a number of a slate, and that it is placed
 

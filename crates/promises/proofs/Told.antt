@@ -19,14 +19,13 @@ use Rattle.accept.specs.Checks.{checks}
 use Rattle.accept.specs.Answers.{factsOf, calibrationIn, answerOf}
 use Rattle.plugin.specs.declared.HsdFile.{HsdFile}
 use Rattle.plugin.specs.Plugin.{shownFile, calibrationC}
-use Rattle.tiling.specs.Lawful.{Named}
 use Rattle.tiling.specs.Made.{Made}
 use Rattle.tiling.proofs.Back.{long}
 use Rattle.tiling.proofs.Lawful.{satellite-of, dated}
 use Rattle.tiling.proofs.Exactly.{says-made, reads-back}
 use Rattle.promises.specs.Calls.{Read}
 use Rattle.promises.specs.Told.{Told, Shown}
-use Rattle.promises.proofs.Refusals.{file-fine}
+use Rattle.promises.proofs.Refusals.{reply-fine, file-shows}
 use Rattle.promises.proofs.Demand1.{in-checks}
 use Rattle.promises.proofs.Calls.{got}
 
@@ -89,7 +88,7 @@ module _ (s : List ℕ) (m : Made s) where
 -- C is told of no refusal only where no check fails
 pub free : (s : List ℕ) → shownFile (answerOf s) .refusal ≡ 0 → judge fine (checks s) ≡ fine
 unfolding answerOf
-free s z = file-fine (checks s) (in-checks s) (judge fine (checks s)) (factsOf s) refl z
+free s z = reply-fine file-shows (checks s) (in-checks s) (judge fine (checks s)) (factsOf s) refl z
 
 -- what C reads the counts of an accepted file by, of the values that the readers give
 pub by-block5 : {s : List ℕ} {w : Verdict} {ws : List Verdict} {v : Header} {e : Entries} → Bytes s → Read s w ws v e → shownFile (answerOf s) .refusal ≡ 0

@@ -7,7 +7,7 @@ use mathlib.Core.List.{List}
 use Prim.Native.Nat.{ℕ}
 use lib.ListN.{length}
 use denote.Ref.{now}
-use Rattle.rules.specs.Rules.{turned, refused, paper, Reply, says, refuses}
+use Rattle.rules.specs.Rules.{fine, judge, paper, says, reply}
 use Rattle.accept.specs.Answers.{factsOf}
 use Rattle.slate.specs.declared.Slate.{Slate}
 use Rattle.slate.specs.declared.Difference.{Difference}
@@ -26,8 +26,8 @@ use Rattle.plugin_frames.specs.Strips.{offeredC}
 use Rattle.plugin_frames.proofs.hsd_offer.Reads as hsd-offer
 use Rattle.plugin_frames.proofs.hsd_why.Reads as hsd-why
 use Rattle.promises.specs.Slated.{Good, slateFrom}
-use Rattle.promises.specs.Why.{Accepted, Reasoned, Agreed, Differed, Never, Always, rank, ShownAs, NeverC, AlwaysC}
-use Rattle.promises.proofs.Refusals.{refuses-in, none-fine}
+use Rattle.promises.specs.Why.{Accepted, Reasoned, Agreed, Differed, Never, Always, rank, ShownWhy, NeverC, AlwaysC}
+use Rattle.promises.proofs.Refusals.{reply-fine, why-shows}
 use Rattle.promises.proofs.Demand1.{in-asking}
 use Rattle.promises.proofs.Slated.{match-exactly}
 use Rattle.promises.proofs.Reasons.{one-differs, reasoned, agreed, differed, shown-as, rank-some}
@@ -72,34 +72,33 @@ answered-c : {s : HsdSlate} {f : List ℕ} (κ : _) (a : _) (r : _) (t : _) → 
 answered-c κ a r t p es ef = p .0 ∙ (λ i. shownRuling (offeredC (es i) (now (a .1 .0)) (length (now (a .1 .1 .0))) (ef i)))
 
 module _ (κ : _) (a : _) (r : _) (t : _) (p : hsd-why.Post κ a r t) where
-  shown-so : ShownAs r (reasonOf (slateFrom (a .0)) (now (a .1 .0)))
-  shown-so = subst (λ (x : HsdWhy). ShownAs x (reasonOf (slateFrom (a .0)) (now (a .1 .0)))) (sym p) (shown-as (reasonOf (slateFrom (a .0)) (now (a .1 .0))))
+  shown-so : ShownWhy r (reasonOf (slateFrom (a .0)) (now (a .1 .0)))
+  shown-so = subst (λ (x : HsdWhy). ShownWhy x (reasonOf (slateFrom (a .0)) (now (a .1 .0)))) (sym p) (shown-as (reasonOf (slateFrom (a .0)) (now (a .1 .0))))
 
-  pub reasons-c : Reasoned (ShownAs r) (slateFrom (a .0)) (now (a .1 .0))
-  reasons-c = reasoned (slateFrom (a .0)) (now (a .1 .0)) (ShownAs r) shown-so
+  pub reasons-c : Reasoned (ShownWhy r) (slateFrom (a .0)) (now (a .1 .0))
+  reasons-c = reasoned (slateFrom (a .0)) (now (a .1 .0)) (ShownWhy r) shown-so
 
-  -- what is told of no refusal is none
-  not-refused : (n b q : ℕ) → reasonOf (slateFrom (a .0)) (now (a .1 .0)) ≡ refuses (turned n b q) → n ≡ 0 → ⊥
-  unfolding reasonOf
-  not-refused n b q e z = none-fine n b q (refuses-in (asking (slateFrom (a .0)) (now (a .1 .0))) (in-asking (slateFrom (a .0)) (now (a .1 .0))) (comparing (slateFrom (a .0)) (factsOf (now (a .1 .0)))) (turned n b q) e) z
+  -- where C is told of no refusal it is told what comparing says
+  told-c : r .refusal ≡ 0 → reasonOf (slateFrom (a .0)) (now (a .1 .0)) ≡ says (comparing (slateFrom (a .0)) (factsOf (now (a .1 .0))))
+  unfolding reasonOf reply
+  told-c z = rw (reply-fine why-shows (asking (slateFrom (a .0)) (now (a .1 .0))) (in-asking (slateFrom (a .0)) (now (a .1 .0))) (judge fine (asking (slateFrom (a .0)) (now (a .1 .0)))) (comparing (slateFrom (a .0)) (factsOf (now (a .1 .0)))) refl (ap (λ (w : HsdWhy). w .refusal) (sym p) ∙ z))
 
   -- no refusal and no part: they agree
   pub agrees-c : r .refusal ≡ 0 → r .part ≡ 0 → Agreed (slateFrom (a .0)) (now (a .1 .0))
-  agrees-c z y = go (reasonOf (slateFrom (a .0)) (now (a .1 .0))) refl shown-so
+  agrees-c z y = go (comparing (slateFrom (a .0)) (factsOf (now (a .1 .0)))) (told-c z) (subst (ShownWhy r) (told-c z) shown-so)
     where
-      go : (x : Reply Compared) → reasonOf (slateFrom (a .0)) (now (a .1 .0)) ≡ x → ShownAs r x → Agreed (slateFrom (a .0)) (now (a .1 .0))
-      go (says Agrees) e h = agreed (slateFrom (a .0)) (now (a .1 .0)) e
-      go (says (Differs d)) e h = absurd (rank-some (d .part) (sym (ap (λ (w : HsdWhy). w .part) h) ∙ y))
-      go (refuses (turned n b q)) e h = absurd (not-refused n b q e (sym (ap (λ (w : HsdWhy). w .refusal) h) ∙ z))
+      go : (c : Compared) → reasonOf (slateFrom (a .0)) (now (a .1 .0)) ≡ says c → ShownWhy r (says c) → Agreed (slateFrom (a .0)) (now (a .1 .0))
+      go Agrees e h = agreed (slateFrom (a .0)) (now (a .1 .0)) e
+      go (Differs d) e h = absurd (rank-some (d .part) (sym (ap (λ (w : HsdWhy). w .part) h) ∙ y))
 
   -- no refusal and a part: it is the first disagreement, with the values told
   pub differs-c : r .refusal ≡ 0 → (r .part ≡ 0 → ⊥) → (d : Difference) × (Differed (slateFrom (a .0)) (now (a .1 .0)) d × (r .part ≡ rank (d .part)) × (r .slate ≡ d .slate) × (r .file ≡ d .file))
-  differs-c z y = go (reasonOf (slateFrom (a .0)) (now (a .1 .0))) refl shown-so
+  differs-c z y = go (comparing (slateFrom (a .0)) (factsOf (now (a .1 .0)))) (told-c z) (subst (ShownWhy r) (told-c z) shown-so)
     where
-      go : (x : Reply Compared) → reasonOf (slateFrom (a .0)) (now (a .1 .0)) ≡ x → ShownAs r x → (d : Difference) × (Differed (slateFrom (a .0)) (now (a .1 .0)) d × (r .part ≡ rank (d .part)) × (r .slate ≡ d .slate) × (r .file ≡ d .file))
-      go (says Agrees) e h = absurd (y (ap (λ (w : HsdWhy). w .part) h))
-      go (says (Differs d)) e h = (d, (differed (slateFrom (a .0)) (now (a .1 .0)) e, ap (λ (w : HsdWhy). w .part) h, ap (λ (w : HsdWhy). w .slate) h, ap (λ (w : HsdWhy). w .file) h))
-      go (refuses (turned n b q)) e h = absurd (not-refused n b q e (sym (ap (λ (w : HsdWhy). w .refusal) h) ∙ z))
+      go : (c : Compared) → reasonOf (slateFrom (a .0)) (now (a .1 .0)) ≡ says c → ShownWhy r (says c)
+          → (d : Difference) × (Differed (slateFrom (a .0)) (now (a .1 .0)) d × (r .part ≡ rank (d .part)) × (r .slate ≡ d .slate) × (r .file ≡ d .file))
+      go Agrees e h = absurd (y (ap (λ (w : HsdWhy). w .part) h))
+      go (Differs d) e h = (d, (differed (slateFrom (a .0)) (now (a .1 .0)) e, ap (λ (w : HsdWhy). w .part) h, ap (λ (w : HsdWhy). w .slate) h, ap (λ (w : HsdWhy). w .file) h))
 
   pub never-c : r .refusal ≡ 0 → r .part ≡ 0 → NeverC (a .0) (now (a .1 .0))
   never-c z y κ' o r' t' p' es ef e =

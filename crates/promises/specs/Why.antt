@@ -92,10 +92,10 @@ rank Total = 7
 rank Lines = 8
 rank FirstLine = 9
 
-abbrev pub ShownAs : HsdWhy → Reply Compared → Type 0
-ShownAs r (says Agrees) = r ≡ record { refusal = 0; block = 0; part = 0; offset = 0; slate = 0; file = 0 }
-ShownAs r (says (Differs d)) = r ≡ record { refusal = 0; block = 0; part = rank (d .part); offset = 0; slate = d .slate; file = d .file }
-ShownAs r (refuses (turned n b p)) = r ≡ record { refusal = n; block = b; part = 0; offset = p; slate = 0; file = 0 }
+abbrev pub ShownWhy : HsdWhy → Reply Compared → Type 0
+ShownWhy r (says Agrees) = r ≡ record { refusal = 0; block = 0; part = 0; offset = 0; slate = 0; file = 0 }
+ShownWhy r (says (Differs d)) = r ≡ record { refusal = 0; block = 0; part = rank (d .part); offset = 0; slate = d .slate; file = d .file }
+ShownWhy r (refuses (turned n b p)) = r ≡ record { refusal = n; block = b; part = 0; offset = p; slate = 0; file = 0 }
 
 -- marks are 99 bytes, each 0 or 1, with none set above N
 pub record SoFarC (s : HsdSlate) (marks : List ℕ) (size : ℕ) : Type 0 where

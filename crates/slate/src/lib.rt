@@ -55,6 +55,7 @@ pub struct Difference {
     pub file: u64,
 }
 
+// Every part is the same, or this one is the first that is not.
 pub enum Compared {
     Agrees,
     Differs(Difference),
