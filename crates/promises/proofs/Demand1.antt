@@ -192,7 +192,7 @@ of-slate κ a r t p u e = refuses-in (slated _) refl _ u (sym p ∙ e)
 
 pub in-asking : (s : _) (f : List ℕ) → inTable (asking s f) ≡ true
 unfolding asking slated tables inTable allowed
-in-asking s f = in-append (checks f) [] (in-checks f) refl
+in-asking s f = in-append (checks f) _ (in-checks f) refl
 
 pub of-why : (κ : _) (a : _) (r : _) (t : _) → why.Post κ a r t → (u : Turned) → paperReason r ≡ refuses u → allowed u ≡ true
 unfolding reasonOf
