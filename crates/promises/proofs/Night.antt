@@ -25,6 +25,7 @@ use Rattle.plugin_night.specs.declared.HsdNight.{HsdNight}
 use Rattle.plugin_night.proofs.hsd_night_add.Reads as hsd-adding
 use Rattle.promises.specs.Night.{kindOf, held, Adds, Call, answerOf, Ran, runOf, ShownAs, zeros, RanC, Night}
 use Rattle.promises.specs.Night as words
+use Rattle.promises.proofs.Refusals.{shown-number}
 use Rattle.promises.proofs.Told.{free, shown-accepted, shown-at}
 use Rattle.promises.proofs.Adding as laws
 use Rattle.promises.proofs.Adding.{Steps, none, step, nightly}
@@ -92,12 +93,8 @@ pub from-there : {cs : List Call} {run : Run} → Ran cs run → 4096 ≤ held r
     → (paper (r .verdict) ≡ refused (turned 19 0 0)) × (r .extra ≡ pos 0) × (r .run ≡ run)
 from-there ran h κ a r t p e = let w = adds κ a r t p .full (subst words.Full (sym e) (words.files h)) in (w .0, w .1, w .2 ∙ e)
 
-told-run : (v : Ruling) → answerOf v ≡ 19 → ((b p : ℕ) → v ≡ refused (turned 19 b p) → ⊥) → ⊥
-told-run fine e h = omega arith
-told-run (refused (turned n b p)) e h = h b p (ap (λ (m : ℕ). refused (turned m b p)) e)
-
 pub below-c : {cs : List Call} {run : HsdRun} → RanC cs run → held (runOf run) < 4096 → (κ : _) (a : _) (r : _) (t : _) → hsd-adding.Post κ a r t → a .0 ≡ run → r .refusal ≡ 19 → ⊥
-below-c {run = run} ran h κ a r t p e z = let f = now (a .1 .0) in told-run (added (runOf run) f) (sym (answer-c κ a r t p e) ∙ z) (λ b o. laws.not-run (steps-c ran) h f b o)
+below-c {run = run} ran h κ a r t p e z = let f = now (a .1 .0) in shown-number 19 (λ i. omega arith) (added (runOf run) f) (shown-answer (added (runOf run) f) ∙ sym (answer-c κ a r t p e) ∙ z) (λ b o. laws.not-run (steps-c ran) h f b o)
 
 pub from-there-c : {cs : List Call} {run : HsdRun} → RanC cs run → 4096 ≤ held (runOf run) → (κ : _) (a : _) (r : _) (t : _) → hsd-adding.Post κ a r t → a .0 ≡ run
     → ShownAs r (refused (turned 19 0 0)) × (r .extra ≡ pos 0) × (runOf (r .run) ≡ runOf run)

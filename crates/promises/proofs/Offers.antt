@@ -33,7 +33,7 @@ use Rattle.tiling.proofs.Lawful.{and}
 use Rattle.promises.specs.Slated.{Good, Match, slateFrom}
 use Rattle.promises.specs.Night.{answerOf}
 use Rattle.promises.specs.Why.{Accepted, Never, SoFarC, NeverC}
-use Rattle.promises.proofs.Refusals.{left}
+use Rattle.promises.proofs.Refusals.{left, shown-number}
 use Rattle.promises.proofs.Runs.{getD-flags}
 use Rattle.promises.proofs.Slated.{good-exactly, match-exactly, mark-at}
 
@@ -80,9 +80,14 @@ pub size-is : (s : Slate) {n : ℕ} → n ≡ s .total * s .lines * s .columns �
 unfolding linesTo
 size-is s e = e
 
--- An offer to a frame that was just opened: an empty record and a strip of the slate's size.
+-- where a test's failing is absurd it holds
+so : (b : Bool) → (b ≡ false → ⊥) → b ≡ true
+so true h = refl
+so false h = absurd (h refl)
+
+-- An offer to a frame that was just opened: an empty record and a strip of the slate's size, which lies apart from the file.
 abbrev fresh : Slate → RefT (List ℕ) → Slate × (Record × (RefT (List ℕ) × (RefT (List ℕ) × Unit {0})))
-fresh s file = (s, (record { marks = noMarks }, (record { ptr = file .ptr; name = file .name; now = replicate (frameSize s) 65534 }, (file, tt))))
+fresh s file = (s, (record { marks = noMarks }, (record { ptr = (suc (file .ptr .0), 0); name = suc (file .name); now = replicate (frameSize s) 65534 }, (file, tt))))
 
 abbrev told : Held
 told = record { verdict = verdicts.Refused (record { why = OtherShot; block = 0; offset = 0 }); rec = record { marks = noMarks } }
@@ -98,18 +103,10 @@ unfolding paper
 told-15 = refl
 
 pub never-match : (κ : Lft) (s : Slate) (file : RefT (List ℕ)) → Good s → Accepted (now file) → Never s (now file) → matching s (factsOf (now file)) ≡ true
-never-match κ s file g ok h = go (matching s (factsOf (now file))) refl
-  where
-    go : (b : Bool) → matching s (factsOf (now file)) ≡ b → b ≡ true
-    go true e = refl
-    go false e = absurd (h (κ, (κ, tt)) (fresh s file) told (fresh s file) (offers-fresh (κ, (κ, tt)) s file g ok e) refl refl 0 0 told-15)
+never-match κ s file g ok h =
+    so (matching s (factsOf (now file))) (λ e. h (κ, (κ, tt)) (fresh s file) told (fresh s file) (offers-fresh (κ, (κ, tt)) s file g ok e) refl refl 0 0 told-15)
 
 -- ---- from C
-
-shown-15 : (v : Ruling) → shownRuling v .refusal ≡ 15 → ((b p : ℕ) → v ≡ refused (turned 15 b p) → ⊥) → ⊥
-unfolding shownRuling
-shown-15 fine e h = omega arith
-shown-15 (refused (turned n b p)) e h = h b p (ap (λ (m : ℕ). refused (turned m b p)) e)
 
 -- marks that will not do are 13
 never-lent : (ok : Bool) (rs : List Row) → ((b p : ℕ) → judge fine rs ≡ refused (turned 15 b p) → ⊥) → (b p : ℕ) → judge fine (tables (lent ok ∷ rs ∷ [])) ≡ refused (turned 15 b p) → ⊥
@@ -128,7 +125,7 @@ none-above-c m total l h = pass-all not false (marksIn m) total (99 - total) (λ
 module _ (s : HsdSlate) (f : List ℕ) (g : Good (slateFrom s)) (ok : Accepted f) (m : List ℕ) (size : ℕ) where
   pub not-other-c : Match (slateFrom s) (factsOf f) → shownRuling (offeredC s m size f) .refusal ≡ 15 → ⊥
   not-other-c h e =
-      shown-15 (offeredC s m size f) e (never-lent (goodMarks m) (offering (slateFrom s) (marksIn m) size f) (not-other (slateFrom s) f g ok (marksIn m) size h))
+      shown-number 15 (λ i. omega arith) (offeredC s m size f) e (never-lent (goodMarks m) (offering (slateFrom s) (marksIn m) size f) (not-other (slateFrom s) f g ok (marksIn m) size h))
 
   pub other-c : matching (slateFrom s) (factsOf f) ≡ false → SoFarC s m size → offeredC s m size f ≡ refused (turned 15 0 0)
   other-c h w =
@@ -140,8 +137,8 @@ abbrev fresh-c : HsdSlate → RefT (List ℕ) → HsdSlate × (RefT (List ℕ) �
 fresh-c s file = (
   s,
   (
-    record { ptr = file .ptr; name = file .name; now = replicate 99 0 },
-    (record { ptr = file .ptr; name = file .name; now = replicate (frameSize (slateFrom s)) 65534 }, (file, tt)),
+    record { ptr = (suc (file .ptr .0), 0); name = suc (file .name); now = replicate 99 0 },
+    (record { ptr = (suc (suc (file .ptr .0)), 0); name = suc (suc (file .name)); now = replicate (frameSize (slateFrom s)) 65534 }, (file, tt)),
   ),
 )
 
@@ -167,8 +164,6 @@ offers-fresh-c κ s file g ok m =
     (sym (ap shownRuling e), (sym (left _ _ _ _ e), sym (left _ _ _ _ e)))
 
 pub never-match-c : (κ : Lft) (s : HsdSlate) (file : RefT (List ℕ)) → Good (slateFrom s) → Accepted (now file) → NeverC s (now file) → matching (slateFrom s) (factsOf (now file)) ≡ true
-never-match-c κ s file g ok h = go (matching (slateFrom s) (factsOf (now file))) refl
-  where
-    go : (b : Bool) → matching (slateFrom s) (factsOf (now file)) ≡ b → b ≡ true
-    go true e = refl
-    go false e = absurd (h (κ, (κ, (κ, tt))) (fresh-c s file) (record { refusal = 15; block = 0; offset = 0 }) (fresh-c s file) (offers-fresh-c (κ, (κ, (κ, tt))) s file g ok e) refl refl refl)
+never-match-c κ s file g ok h =
+    so (matching (slateFrom s) (factsOf (now file)))
+    (λ e. h (κ, (κ, (κ, tt))) (fresh-c s file) (record { refusal = 15; block = 0; offset = 0 }) (fresh-c s file) (offers-fresh-c (κ, (κ, (κ, tt))) s file g ok e) refl refl refl)

@@ -111,6 +111,12 @@ none-fine n b p h e =
     let q : _≡_ {A = ℕ} 0 1 = cc in
     omega arith
 
+-- what is shown by a number that is not 0 is a refusal of that number
+pub shown-number : (n : ℕ) → (n ≡ 0 → ⊥) → (v : Ruling) → shownRuling v .refusal ≡ n → ((b p : ℕ) → v ≡ refused (turned n b p) → ⊥) → ⊥
+unfolding shownRuling
+shown-number n some fine e h = some (sym e)
+shown-number n some (refused (turned m b p)) e h = h b p (ap (λ (k : ℕ). refused (turned k b p)) e)
+
 -- ---- replies in C's numbers: a value has no refusal, and a refusal its three numbers
 
 pub record Shows {A R : Type 0} (show : Reply A → R) (refusal block offset : R → ℕ) : Type 0 where

@@ -31,6 +31,7 @@ use Rattle.frame.specs.Records.{marked, tallied, tallyOf}
 use Rattle.frame.proofs.offer.Reads as offer
 use Rattle.frame.proofs.tally.Reads as tally
 use Rattle.assembly.specs.History.{isFine, bears}
+use Rattle.assembly.proofs.Order.{not-so}
 use Rattle.promises.specs.Reels.{Own}
 use Rattle.promises.specs.Slated.{Good, Match, howMany}
 
@@ -134,17 +135,10 @@ module _ (s : Slate) where
 
 -- ---- asking why: the slate's refusal, then the file's own
 
-bad-is : (s : Slate) → (Good s → ⊥) → goodSlate s ≡ false
-bad-is s h = go (goodSlate s) refl
-  where
-    go : (b : Bool) → goodSlate s ≡ b → b ≡ false
-    go true e = absurd (h (good-exactly s .0 e))
-    go false e = refl
-
 module _ (s : Slate) (f : List ℕ) where
   pub slate-first : (Good s → ⊥) → judge fine (asking s f) ≡ refused (turned 13 0 0)
   unfolding asking slated tables
-  slate-first h = first-fails (asking s f) (turned 13 0 0) .1 (here (bad-is s h))
+  slate-first h = first-fails (asking s f) (turned 13 0 0) .1 (here (not-so (goodSlate s) (λ e. h (good-exactly s .0 e))))
 
   pub then-file : Good s → (u : Turned) → Own f u → judge fine (asking s f) ≡ refused u
   unfolding asking slated
