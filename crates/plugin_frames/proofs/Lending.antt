@@ -14,11 +14,11 @@ use Rattle.wire.specs.Wire.{tab}
 use Rattle.wire.proofs.Rows.{tab-is}
 use Rattle.frame.specs.Records.{noMarks, noneAbove}
 use Rattle.frame.proofs.Marking.{pass-hit, pass-miss, pass-end}
-use Rattle.rules.specs.Rules.{Row, row, Turned, turned, fine, Ruling, refused, tables, judge, checked, after, says, refuses, reply}
-use Rattle.rules.proofs.Judge.{exactly, each-is, tried, table, last, judge-refused, said, turned-away}
+use Rattle.rules.specs.Rules.{Row, row, Turned, turned, fine, Ruling, refused, tables, judge, checked, after, refuses, reply}
+use Rattle.rules.proofs.Judge.{exactly, each-is, tried, table, last, judge-refused}
 use Rattle.accept.specs.Checks.{checks}
 use Rattle.slate.specs.declared.Slate.{Slate}
-use Rattle.slate.specs.Slates.{goodSlate, slated, slateOf, frameSize, asking, reasonOf}
+use Rattle.slate.specs.Slates.{goodSlate, slated, blank, frameSize, asking, reasonOf}
 use Rattle.frame.specs.Frames.{opening, opened, openFrame, ready, placing, offering, offered, frameAfter}
 use Rattle.frame.specs.Lines.{lineGood, lineOf}
 use Rattle.plugin_frames.specs.declared.HsdSlate.{HsdSlate}
@@ -75,35 +75,33 @@ pub record Lent (s : HsdSlate) (ok : Bool) (made : Slate) : Type 0 where
   pub marks : ok ≡ true
   pub slate : slateIn s ≡ made
 
-pub lent-made : (s : HsdSlate) (ok : Bool) (made : Slate) → says made ≡ slateC s ok → Lent s ok made
-unfolding lent
-lent-made s ok made e =
+pub lent-made : (s : HsdSlate) (ok : Bool) (made : Slate) → slateC s ok ≡ fine → made ≡ after (judge fine (slated (slateIn s))) blank (slateIn s) → Lent s ok made
+unfolding lent slated after checked
+lent-made s ok made e m =
     let rs = lent ok ∷ slated (slateIn s) ∷ [] in
-    let r = said (judge fine (tables rs)) (slateIn s) made (sym e) in
-    record { marks = each-is rs (exactly (tables rs) .0 (r .0)) .0 .0; slate = r .1 }
+    let r = each-is rs (exactly (tables rs) .0 e) in
+    record { marks = r .0 .0; slate = sym (m ∙ rw (r .1 .0 .0)) }
 
 -- good marks are 99
 pub good-long : (m : List ℕ) → goodMarks m ≡ true → length m ≡ 99
 unfolding goodMarks
 good-long m g = eqb-true (length m) 99 (and-eq-true-iff (longMarks m) (bitsFrom m 0) .0 g .0)
 
-module _ (s : HsdSlate) (ok : Bool) where
-  abbrev given : Ruling → Ruling
-  given v = judge v (slated (slateIn s))
+-- whichever of the two comes first, SLATE is what is said
+pub slate-marked : (s : HsdSlate) (ok : Bool) → checked (judge fine (slated (slateIn s))) ok (turned 13 0 0) ≡ slateC s ok
+unfolding lent slated checked
+slate-marked s ok = go ok (goodSlate (slateIn s)) ∙ sym (two (lent ok) (slated (slateIn s)))
+  where
+    go : (x y : Bool) → checked (checked fine y (turned 13 0 0)) x (turned 13 0 0) ≡ checked (checked fine x (turned 13 0 0)) y (turned 13 0 0)
+    go true true = refl
+    go true false = refl
+    go false true = refl
+    go false false = refl
 
-  pub slate-fine : checked fine ok (turned 13 0 0) ≡ fine → slateOf (slateIn s) ≡ slateC s ok
-  unfolding lent slateOf
-  slate-fine e = sym (ap (λ (r : Ruling). reply r (slateIn s)) (two (lent ok) (slated (slateIn s)) ∙ ap given e))
-
-  pub slate-refused : (t : Turned) → checked fine ok (turned 13 0 0) ≡ refused t → refuses t ≡ slateC s ok
-  unfolding lent reply
-  slate-refused t e =
-      sym (ap (λ (r : Ruling). reply r (slateIn s)) (two (lent ok) (slated (slateIn s)) ∙ ap given e ∙ judge-refused t (slated (slateIn s))))
-
-module _ (s : HsdSlate) (ok : Bool) (t : Turned) (e : refuses t ≡ slateC s ok) where
+module _ (s : HsdSlate) (ok : Bool) (t : Turned) (e : slateC s ok ≡ refused t) where
   first : checked (checked fine ok (turned 13 0 0)) (goodSlate (slateIn s)) (turned 13 0 0) ≡ refused t
   unfolding lent slated
-  first = sym (two (lent ok) (slated (slateIn s))) ∙ turned-away (judge fine (tables (lent ok ∷ slated (slateIn s) ∷ []))) (slateIn s) t (sym e)
+  first = sym (two (lent ok) (slated (slateIn s))) ∙ e
 
   -- a refusal of marks or slate is that of every table that begins with them
   pub lent-refused : (rest : List Row) → judge fine (tables (lent ok ∷ (slated (slateIn s) ++ rest) ∷ [])) ≡ refused t
@@ -111,15 +109,15 @@ module _ (s : HsdSlate) (ok : Bool) (t : Turned) (e : refuses t ≡ slateC s ok)
   lent-refused rest = two (lent ok) (slated (slateIn s) ++ rest) ∙ ap (λ (v : Ruling). judge v rest) first ∙ judge-refused t rest
 
 module _ (s : HsdSlate) (m : List ℕ) (t : Turned) where
-  pub lent-opened : refuses t ≡ slateC s (longMarks m) → (size : ℕ) → openedC s m size ≡ refused t
+  pub lent-opened : slateC s (longMarks m) ≡ refused t → (size : ℕ) → openedC s m size ≡ refused t
   unfolding opening
   lent-opened e size = lent-refused s (longMarks m) t e _
 
-  pub lent-offered : refuses t ≡ slateC s (goodMarks m) → (size : ℕ) (f : List ℕ) → offeredC s m size f ≡ refused t
+  pub lent-offered : slateC s (goodMarks m) ≡ refused t → (size : ℕ) (f : List ℕ) → offeredC s m size f ≡ refused t
   unfolding offering ready slated tables
   lent-offered e size f = lent-refused s (goodMarks m) t e (row (noneAbove (s .total) (marksIn m)) 13 0 0 ∷ row (eqb size (frameSize (slateIn s))) 14 0 0 ∷ (checks f ++ (placing (slateIn s) (marksIn m) f ++ [])))
 
-  pub lent-line : refuses t ≡ slateC s (goodMarks m) → (frame leader : List ℕ) (n : ℕ) → lineC s m frame leader n ≡ []
+  pub lent-line : slateC s (goodMarks m) ≡ refused t → (frame leader : List ℕ) (n : ℕ) → lineC s m frame leader n ≡ []
   unfolding lineC lineOf lineGood checked
   lent-line e frame leader n = go (goodMarks m) (goodSlate (slateIn s)) refl refl (first s (goodMarks m) t e)
     where
@@ -129,7 +127,7 @@ module _ (s : HsdSlate) (m : List ℕ) (t : Turned) where
       go false h eg eh x = rw eg
 
 -- a bad slate is told before the file is looked at
-pub lent-why : (s : HsdSlate) (t : Turned) → refuses t ≡ slateC s true → (f : List ℕ) → refuses t ≡ reasonOf (slateIn s) f
+pub lent-why : (s : HsdSlate) (t : Turned) → slateC s true ≡ refused t → (f : List ℕ) → reasonOf (slateIn s) f ≡ refuses t
 unfolding asking reasonOf reply tables
 lent-why s t e f = rw (sym (lent-good true (slated (slateIn s) ++ (checks f ++ [])) refl) ∙ lent-refused s true t e (checks f ++ []))
 

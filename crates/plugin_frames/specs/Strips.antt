@@ -5,7 +5,7 @@ use mathlib.Core.List.{List, [], _∷_, _++_}
 use lib.ListN.{length, drop, getD}
 use lib.Dec.{eqb, leb}
 use Rattle.wire.specs.Wire.{tab}
-use Rattle.rules.specs.Rules.{Ruling, fine, Row, row, tables, judge, after, Reply, reply}
+use Rattle.rules.specs.Rules.{Ruling, fine, Row, row, tables, judge, after}
 use Rattle.slate.specs.declared.Slate.{Slate}
 use Rattle.slate.specs.Slates.{partsOf, slated}
 use Rattle.frame.specs.Records.{pass, oneOf, noMarks}
@@ -13,8 +13,9 @@ use Rattle.frame.specs.Frames.{opening, openFrame, offering, recordAfter, frame
 use Rattle.frame.specs.Lines.{lineOf}
 use Rattle.plugin_frames.specs.declared.HsdSlate.{HsdSlate}
 
+-- what stands beyond the Nth height is no part of it
 abbrev pub slateIn : HsdSlate → Slate
-slateIn s = partsOf (s .satellite) (s .day) (s .timeline) (s .band) (s .area) (s .columns) (s .total) (s .lines)
+slateIn s = partsOf (s .satellite) (s .day) (s .timeline) (s .band) (s .area) (s .columns) (s .total) (s .heights)
 
 -- ---- marks
 
@@ -48,9 +49,9 @@ marksIn m = flags m 99
 abbrev pub marksOut : List Bool → List ℕ
 marksOut marks = tab (λ k. oneOf (getD marks k false)) 99
 
--- marks and slate are good: the slate, or SLATE
-abbrev pub slateC : HsdSlate → Bool → Reply Slate
-slateC s ok = reply (judge fine (tables (lent ok ∷ slated (slateIn s) ∷ []))) (slateIn s)
+-- marks and slate are good, or SLATE
+abbrev pub slateC : HsdSlate → Bool → Ruling
+slateC s ok = judge fine (tables (lent ok ∷ slated (slateIn s) ∷ []))
 
 -- ---- what is said, and what the lent marks and frame then hold
 

@@ -12,13 +12,13 @@ use slate::Slate;
 use slate::Slated;
 ghost use mathlib.Core.Path.{_≡_};
 ghost use lib.ListN.{length};
-ghost use Rattle.rules.specs.Rules.{paper, after, says};
-ghost use Rattle.slate.specs.Slates.{paperSlate, paperReason, reasonOf};
+ghost use Rattle.rules.specs.Rules.{fine, paper, judge, after, says};
+ghost use Rattle.slate.specs.Slates.{slated, blank, paperReason, reasonOf};
 ghost use Rattle.plugin.specs.Plugin.{shownRuling};
 ghost use Rattle.plugin_frames.specs.Reasons.{rankOf, shownReason};
 ghost use Rattle.plugin_frames.specs.Strips.{slateIn, bitsFrom, goodMarks, marksIn, marksOut, slateC, openedC, offeredC, openMarks, openStrip, offerMarks, offerStrip, lineC, copiedOf, copyOf};
 
-// satellite is 8 or 9, total the segments and lines those of each segment, area the four letters, the first one highest.
+// satellite is 8 or 9, total the segments and heights the lines of each, with any numbers beyond them; area is the four letters, the first one highest.
 #[repr(C)]
 pub struct HsdSlate {
     pub satellite: u8,
@@ -26,7 +26,7 @@ pub struct HsdSlate {
     pub timeline: u16,
     pub band: u16,
     pub columns: u16,
-    pub lines: u16,
+    pub heights: [u16; 99],
     pub day: u32,
     pub area: u32,
 }
@@ -64,21 +64,25 @@ fn record_of(marks: &[u8]) -> Record
 
 // The slate of a struct's numbers, or refusal 13 where the marks will not do or the slate is bad.
 fn slate_of(s: HsdSlate, marked: bool) -> Slated
-    ensures { λ r. ⌜ paperSlate r ≡ slateC s marked ⌝ }
+    ensures { λ r. ⌜ paper (r .verdict) ≡ slateC s marked ⌝ }
+    ensures { λ r. ⌜ r .slate ≡ after (judge fine (slated (slateIn s))) blank (slateIn s) ⌝ }
 {
-    let v = rules::check(Verdict::Fine, marked, Why::Slate, 0, 0);
-    match v {
-        Verdict::Refused(t) => Slated::Refused(t),
-        Verdict::Fine => Slate::new(
-            s.satellite,
-            s.day,
-            s.timeline,
-            s.band,
-            s.area,
-            s.columns,
-            s.total,
-            s.lines,
-        ),
+    let heights = s.heights;
+    let made = Slate::new(
+        s.satellite,
+        s.day,
+        s.timeline,
+        s.band,
+        s.area,
+        s.columns,
+        s.total,
+        heights,
+    );
+    let v = made.verdict;
+    let slate = made.slate;
+    Slated {
+        verdict: rules::check(v, marked, Why::Slate, 0, 0),
+        slate,
     }
 }
 
@@ -117,9 +121,11 @@ pub extern "C" fn hsd_open(slate: HsdSlate, marks: &mut [u8], frame: &mut [u16])
     ensures { λ _. ⌜ now (frame .exit) ≡ openStrip slate (now (marks .entry)) (now (frame .entry)) ⌝ }
 {
     let made = slate_of(slate, marks.len() == 99);
-    match made {
-        Slated::Refused(t) => plugin::answer_of(Verdict::Refused(t)),
-        Slated::Made(s) => {
+    let v = made.verdict;
+    let s = made.slate;
+    match v {
+        Verdict::Refused(t) => plugin::answer_of(Verdict::Refused(t)),
+        Verdict::Fine => {
             let held = frame::open(s, frame);
             keep(marks, held)
         }
@@ -139,9 +145,11 @@ pub extern "C" fn hsd_offer(
     ensures { λ _. ⌜ now (frame .exit) ≡ offerStrip slate (now (marks .entry)) (now (frame .entry)) (now (file .entry)) ⌝ }
 {
     let made = slate_of(slate, good_marks(marks));
-    match made {
-        Slated::Refused(t) => plugin::answer_of(Verdict::Refused(t)),
-        Slated::Made(s) => {
+    let v = made.verdict;
+    let s = made.slate;
+    match v {
+        Verdict::Refused(t) => plugin::answer_of(Verdict::Refused(t)),
+        Verdict::Fine => {
             let held = frame::offer(s, record_of(marks), frame, file);
             keep(marks, held)
         }
@@ -178,9 +186,11 @@ pub extern "C" fn hsd_line<'a>(
     ensures { λ _. ⌜ now (out .exit) ≡ copyOf (lineC slate (now (marks .entry)) (now (frame .entry)) (now (leader .entry)) line) (now (out .entry)) ⌝ }
 {
     let made = slate_of(slate, good_marks(marks));
-    match made {
-        Slated::Refused(_) => 0,
-        Slated::Made(s) => {
+    let v = made.verdict;
+    let s = made.slate;
+    match v {
+        Verdict::Refused(_) => 0,
+        Verdict::Fine => {
             let rec = record_of(marks);
             copy(frame::line_of(s, rec, frame, leader, Line(line)), out)
         }
@@ -267,8 +277,10 @@ pub extern "C" fn hsd_why(slate: HsdSlate, file: &[u8]) -> HsdWhy
     ensures { λ r. ⌜ r ≡ shownReason (reasonOf (slateIn slate) (now (file .entry))) ⌝ }
 {
     let made = slate_of(slate, true);
-    match made {
-        Slated::Refused(t) => shown_reason(Reason::Refused(t)),
-        Slated::Made(s) => shown_reason(s.why(file)),
+    let v = made.verdict;
+    let s = made.slate;
+    match v {
+        Verdict::Refused(t) => shown_reason(Reason::Refused(t)),
+        Verdict::Fine => shown_reason(s.why(file)),
     }
 }

@@ -1,16 +1,16 @@
 -- Laws on the cut of a slate. The first part opens its definitions; the second, and every other file, knows only the first.
 -- Assumes nothing.
-use mathlib.Core.Path.{_≡_}
+use mathlib.Core.Path.{_≡_, refl}
 use mathlib.Core.Logic.{⊎-elim}
-use mathlib.Core.Bool.{true, _&&_, and-eq-true-iff}
-use Prim.Native.Nat.{ℕ, zero, suc, _+_, _*_, _-_, _/_, _<_, _≤_}
-use native.Mathlib.Nat.{eq-or-lt-of-le, le-of-suc-le-suc, le-trans, mul-le-mul-left, mul-le-mul-right, suc-mul, add-mul, mod-lt, div-add-mod', div-lt-iff-lt-mul}
+use mathlib.Core.Bool.{Bool, true, false, cond, _&&_, and-false, and-eq-true-iff}
+use Prim.Native.Nat.{ℕ, zero, suc, _+_, _*_, _-_, _<_, _≤_}
+use native.Mathlib.Nat.{eq-or-lt-of-le, le-of-suc-le-suc, le-trans, mul-le-mul-left, mul-le-mul-right, suc-mul, add-mul}
 use native.Mathlib.Numerals.{add-one}
 use native.Mathlib.Omega.{arith}
-use lib.Dec.{leb}
-use borrow.Author.Tests.{leb-true}
+use lib.Dec.{leb, ltb}
+use borrow.Author.Tests.{leb-true, leb-false, ltb-true, ltb-false, le-leb, lt-leb}
 use Rattle.format.specs.Ranges.{goodSize, goodTotal}
-use Rattle.slate.specs.Cut.{heightOf, linesTo, goodCut, coverOf}
+use Rattle.slate.specs.Cut.{heightOf, linesTo, allTall, goodCut, lastTo, coverOf}
 use Rattle.slate.specs.Slates.{goodShot, goodSlate, sizeOf, startOf, frameLines, frameSize, hasLine}
 use Rattle.slate.specs.declared.Slate.{Slate}
 
@@ -25,15 +25,34 @@ rising f up k (suc n) h = ⊎-elim (λ e. rw e (omega arith)) (λ l. le-trans (r
 
 pub lines-none : (s : Slate) → linesTo s 0 ≡ 0
 unfolding linesTo
-lines-none s = omega arith
+lines-none s = refl
 
 pub lines-more : (s : Slate) (n : ℕ) → linesTo s (suc n) ≡ linesTo s n + heightOf s (suc n)
-unfolding linesTo heightOf
-lines-more s n = suc-mul n (s .lines)
+unfolding linesTo
+lines-more s n = refl
 
-pub tall : (s : Slate) → goodCut s ≡ true → 1 ≤ s .lines
-unfolding goodCut
-tall s e = leb-true _ _ (and-eq-true-iff (leb 1 (s .lines)) _ .0 e .0)
+-- a turn of a loop over the heights: k is the number before, and then this one
+pub lines-next : (s : Slate) (k : ℕ) → linesTo s (k + 1) ≡ linesTo s k + heightOf s (k + 1)
+lines-next s k = rw (add-one k, lines-more s k)
+
+pub lines-step : (s : Slate) (k : ℕ) → 1 ≤ k → linesTo s k ≡ linesTo s (k - 1) + heightOf s k
+lines-step s k h = let e : k - 1 + 1 ≡ k = omega arith in (rw e at (lines-next s (k - 1)))
+
+pub tall-none : (s : Slate) → allTall s 0 ≡ true
+unfolding allTall
+tall-none s = refl
+
+pub tall-next : (s : Slate) (k : ℕ) → allTall s k ≡ true → 1 ≤ heightOf s (k + 1) → allTall s (k + 1) ≡ true
+unfolding allTall
+tall-next s k e h = rw add-one (rw (e, le-leb 1 _ (rw add-one at h)))
+
+pub tall-not : (s : Slate) (k n : ℕ) → k < n → heightOf s (k + 1) < 1 → allTall s n ≡ false
+unfolding allTall
+tall-not s k zero h e = absurd (omega arith)
+tall-not s k (suc n) h e = ⊎-elim here (λ l. rw (tall-not s k n l e)) (eq-or-lt-of-le (le-of-suc-le-suc h))
+  where
+    here : k ≡ n → (allTall s n && leb 1 (heightOf s (suc n))) ≡ false
+    here q = let z : heightOf s (suc n) < 1 = (rw (q, add-one) at e) in rw (lt-leb 1 _ z) (and-false (allTall s n))
 
 -- segment k is one of the slate's, and covers the line
 pub record Covers (s : Slate) (line k : ℕ) : Type 0 where
@@ -42,30 +61,45 @@ pub record Covers (s : Slate) (line k : ℕ) : Type 0 where
   pub after : linesTo s (k - 1) < line
   pub upto : line ≤ linesTo s k
 
+covers-to : (s : Slate) (line n : ℕ) → n ≤ s .total → 1 ≤ line → line ≤ linesTo s n → Covers s line (lastTo s line n)
+unfolding lastTo
+covers-to s line zero h a b = absurd (omega (arith, lines-none s))
+covers-to s line (suc n) h a b = go (ltb (linesTo s n) line) refl (covers-to s line n (omega arith) a)
+  where
+    go : (t : Bool) → ltb (linesTo s n) line ≡ t → (line ≤ linesTo s n → Covers s line (lastTo s line n)) → Covers s line (cond t (suc n) (lastTo s line n))
+    go true e ih = let i : suc n - 1 ≡ n = omega arith in record { some = omega arith; most = h; after = rw i (ltb-true (linesTo s n) line e); upto = b }
+    go false e ih = ih (ltb-false (linesTo s n) line e)
+
 pub covers : (s : Slate) (line : ℕ) → goodCut s ≡ true → 1 ≤ line → line ≤ frameLines s → Covers s line (coverOf s line)
-unfolding goodCut linesTo coverOf
-covers s line g a b =
-    let h : 0 < s .lines = leb-true _ _ (and-eq-true-iff _ _ .0 g .0) in
-    let k = (line - 1) / s .lines in
-    let l : line - 1 < s .total * s .lines = omega arith in
-    let kt : k < s .total = div-lt-iff-lt-mul h .1 l in
-    let d = div-add-mod' (line - 1) (s .lines) in
-    let r = mod-lt (line - 1) h in
-    let m = suc-mul k (s .lines) in
-    let i : k + 1 - 1 ≡ k = omega arith in
-    record { some = omega arith; most = omega arith; after = rw i (omega arith); upto = rw (add-one k) (omega arith) }
+unfolding coverOf
+covers s line g a b = covers-to s line (s .total) (omega arith) a b
 
 -- ---- of any cut
 
 lines-below : (s : Slate) (k n : ℕ) → k ≤ n → linesTo s k ≤ linesTo s n
 lines-below s = rising (linesTo s) (λ n. omega (arith, lines-more s n))
 
+not-above : {j k : ℕ} → (k < j → ⊥) → j ≤ k
+not-above {j} {k} f = go (leb j k) refl
+  where
+    go : (b : Bool) → leb j k ≡ b → j ≤ k
+    go true e = leb-true j k e
+    go false e = absurd (f (leb-false j k e))
+
+-- a line has one segment that covers it
+pub cover-one : (s : Slate) (line j k : ℕ) → Covers s line j → Covers s line k → j ≡ k
+cover-one s line j k p q = ⊎-elim (λ e. e) (λ l. absurd (low l)) (eq-or-lt-of-le high)
+  where
+    low : j < k → ⊥
+    low h = let c = lines-below s j (k - 1) (omega arith) in omega (arith, q .after, p .upto)
+
+    high : j ≤ k
+    high = not-above (λ h. let c = lines-below s k (j - 1) (omega arith) in omega (arith, p .after, q .upto))
+
 -- segment n lies within the frame
 pub strip-room : (s : Slate) (n : ℕ) → 1 ≤ n → n ≤ s .total → startOf s n + sizeOf s n ≤ frameSize s
 strip-room s n h k =
-    let e : suc (n - 1) ≡ n = omega arith in
-    let m : linesTo s n ≡ linesTo s (n - 1) + heightOf s n = (rw e at (lines-more s (n - 1))) in
-    rw (← add-mul (linesTo s (n - 1)) (heightOf s n) (s .columns), ← m) (mul-le-mul-right (s .columns) (lines-below s n (s .total) k))
+    rw (← add-mul (linesTo s (n - 1)) (heightOf s n) (s .columns), ← lines-step s n h) (mul-le-mul-right (s .columns) (lines-below s n (s .total) k))
 
 -- a line lies within the frame
 pub line-room : (s : Slate) (line : ℕ) → 1 ≤ line → line ≤ frameLines s → (line - 1) * s .columns + s .columns ≤ frameSize s

@@ -2,25 +2,10 @@
 use mathlib.Core.Path.{_≡_, refl, sym, ap, _∙_}
 use Rattle.rules.specs.Rules.{Reply, says, refuses}
 use Rattle.rules.proofs.Paper.{refusalOf, refusal-paper}
-use Rattle.slate.specs.declared.Slate.{Slate}
-use Rattle.slate.specs.declared.Slated.{Slated}
-use Rattle.slate.specs.declared.Slated.the-variants.{Made, Refused}
 use Rattle.slate.specs.declared.Compared.{Compared}
 use Rattle.slate.specs.declared.Reason.{Reason}
 use Rattle.slate.specs.declared.Reason.the-variants as reason
-use Rattle.slate.specs.Slates.{paperSlate, paperReason}
-
-abbrev slated-as : Reply Slate → Slated
-slated-as (says s) = Made s
-slated-as (refuses t) = Refused (refusalOf t)
-
-slated-back : (r : Slated) → slated-as (paperSlate r) ≡ r
-unfolding paperSlate
-slated-back (Made s) = refl
-slated-back (Refused t) = ap Refused (refusal-paper t)
-
-pub paperSlate-one : (x y : Slated) → paperSlate x ≡ paperSlate y → x ≡ y
-paperSlate-one x y e = sym (slated-back x) ∙ ap slated-as e ∙ slated-back y
+use Rattle.slate.specs.Slates.{paperReason}
 
 abbrev reason-as : Reply Compared → Reason
 reason-as (says c) = reason.Compared c

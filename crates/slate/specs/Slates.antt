@@ -2,9 +2,11 @@
 use Prim.Native.Nat.{ℕ, _+_, _*_, _-_}
 use mathlib.Core.Bool.{Bool, _&&_, _||_, cond}
 use mathlib.Core.List.{List, [], _∷_}
-use lib.Dec.{leb, eqb}
-use Rattle.wire.specs.Wire.{digits}
-use Rattle.rules.specs.Rules.{paperOf, fine, Row, row, tables, judge, Reply, says, refuses, reply}
+use mathlib.Core.Path.{_≡_}
+use lib.Dec.{leb, ltb, eqb}
+use lib.ListN.{getD, replicate}
+use Rattle.wire.specs.Wire.{digits, tab}
+use Rattle.rules.specs.Rules.{paper, paperOf, fine, Row, row, tables, judge, after, Reply, says, refuses, reply}
 use Rattle.calendar.specs.Shots.{goodDay, goodTimeline}
 use Rattle.format.specs.Ranges.{goodArea, goodSize, goodTotal}
 use Rattle.format.specs.Bands.{goodBand}
@@ -15,7 +17,6 @@ use Rattle.slate.specs.Cut.{heightOf, linesTo, goodCut, coverOf}
 use Rattle.slate.specs.Parts.{comparing, isAgrees}
 use Rattle.slate.specs.declared.Slate.{Slate}
 use Rattle.slate.specs.declared.Slated.{Slated}
-use Rattle.slate.specs.declared.Slated.the-variants.{Made, Refused}
 use Rattle.slate.specs.declared.Compared.{Compared}
 use Rattle.slate.specs.declared.Reason.{Reason}
 use Rattle.slate.specs.declared.Reason.the-variants as reason
@@ -37,13 +38,13 @@ goodSlate s = goodShot s && goodSize (s .columns) && goodTotal (s .total) && goo
 unfoldable pub slated : Slate → List Row
 slated s = row (goodSlate s) 13 0 0 ∷ []
 
-unfoldable pub paperSlate : Slated → Reply Slate
-paperSlate (Made s) = says s
-paperSlate (Refused t) = refuses (paperOf t)
+-- the N heights, and 0 in the room beyond them
+unfoldable pub keptOf : ℕ → List ℕ → List ℕ
+keptOf total heights = tab (λ k. cond (ltb k total) (getD heights k 0) 0) 99
 
--- the parts of a slate, in the paper's order
-abbrev pub partsOf : ℕ → ℕ → ℕ → ℕ → ℕ → ℕ → ℕ → ℕ → Slate
-partsOf satellite day timeline band area columns total lines = record {
+-- the parts of a slate, in the paper's order, without what stands beyond the Nth height
+abbrev pub partsOf : ℕ → ℕ → ℕ → ℕ → ℕ → ℕ → ℕ → List ℕ → Slate
+partsOf satellite day timeline band area columns total heights = record {
   satellite = satellite;
   day = day;
   timeline = timeline;
@@ -51,12 +52,17 @@ partsOf satellite day timeline band area columns total lines = record {
   area = area;
   columns = columns;
   total = total;
-  lines = lines;
+  heights = keptOf total heights;
 }
 
--- the slate of given parts, or the refusal
-unfoldable pub slateOf : Slate → Reply Slate
-slateOf s = reply (judge fine (slated s)) s
+-- no slate: every part is 0
+unfoldable pub blank : Slate
+blank = record { satellite = 0; day = 0; timeline = 0; band = 0; area = 0; columns = 0; total = 0; heights = replicate 99 0 }
+
+-- the slate of given parts, or the refusal and no slate
+pub record SlatedAs (s : Slate) (r : Slated) : Type 0 where
+  pub says : paper (r .verdict) ≡ judge fine (slated s)
+  pub is : r .slate ≡ after (judge fine (slated s)) blank s
 
 -- ---- sizes, in counts
 

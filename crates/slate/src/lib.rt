@@ -4,12 +4,13 @@ use rules::Refusal;
 use rules::Verdict;
 use rules::Why;
 ghost use mathlib.Core.Path.{_≡_};
+ghost use mathlib.Core.Bool.{cond};
 ghost use Prim.Native.Nat.{_+_, _*_, _-_, _≤_};
 ghost use Rattle.wire.specs.Wire.{digits};
 ghost use Rattle.rules.specs.Rules.{paper, judge};
-ghost use Rattle.slate.specs.Cut.{heightOf, linesTo, goodCut};
+ghost use Rattle.slate.specs.Cut.{heightOf, linesTo, allTall, goodCut};
 ghost use Rattle.slate.specs.Parts.{shotParts, cutParts, further, compareAll, comparing};
-ghost use Rattle.slate.specs.Slates.{goodSlate, slated, paperSlate, partsOf, slateOf, sizeOf, startOf, frameLines, frameSize, placeOf, hasLine, coverOr0, matching, paperReason, reasonOf};
+ghost use Rattle.slate.specs.Slates.{goodSlate, slated, keptOf, partsOf, blank, SlatedAs, sizeOf, startOf, frameLines, frameSize, placeOf, hasLine, coverOr0, matching, paperReason, reasonOf};
 
 // A line and a column of the frame, both counted from 1; neither stands for the other.
 pub struct Line(pub u16);
@@ -26,13 +27,14 @@ pub struct Slate {
     columns: u16,
     // the segments, N
     total: u8,
-    // the lines of each segment, L
-    lines: u16,
+    // the lines of each of them; the room beyond the Nth is 0
+    heights: [u16; 99],
 }
 
-pub enum Slated {
-    Made(Slate),
-    Refused(Refusal),
+// The verdict on a slate's parts, and the slate; refused parts make none, and it is blank.
+pub struct Slated {
+    pub verdict: Verdict,
+    pub slate: Slate,
 }
 
 // The parts of a slate that a file has, too, in the paper's order.
@@ -80,7 +82,7 @@ impl Slate {
 
     pub const MOST_LINES: u32 = 22000;
 
-    // The slate of these parts, or refusal 13.
+    // The slate of these parts, or refusal 13. What stands beyond the Nth height is ignored.
     pub fn new(
         satellite: u8,
         day: u32,
@@ -89,10 +91,11 @@ impl Slate {
         area: u32,
         columns: u16,
         total: u8,
-        lines: u16,
+        heights: [u16; 99],
     ) -> Slated
-        ensures { λ r. ⌜ paperSlate r ≡ slateOf (partsOf satellite day timeline band area columns total lines) ⌝ }
+        ensures { λ r. ⌜ SlatedAs (partsOf satellite day timeline band area columns total heights) r ⌝ }
     {
+        let heights = kept(total, heights);
         let slate = Slate {
             satellite,
             day,
@@ -101,12 +104,34 @@ impl Slate {
             area,
             columns,
             total,
-            lines,
+            heights,
         };
         let v = slate.check(Verdict::Fine);
         match v {
-            Verdict::Refused(t) => Slated::Refused(t),
-            Verdict::Fine => Slated::Made(slate),
+            Verdict::Refused(t) => Slated {
+                verdict: Verdict::Refused(t),
+                slate: Self::blank(),
+            },
+            Verdict::Fine => Slated {
+                verdict: Verdict::Fine,
+                slate,
+            },
+        }
+    }
+
+    // No slate: every part is 0.
+    fn blank() -> Slate
+        ensures { λ r. ⌜ r ≡ blank ⌝ }
+    {
+        Slate {
+            satellite: 0,
+            day: 0,
+            timeline: 0,
+            band: 0,
+            area: 0,
+            columns: 0,
+            total: 0,
+            heights: [0; 99],
         }
     }
 
@@ -133,21 +158,48 @@ impl Slate {
     fn good_cut(self) -> bool
         ensures { λ r. ⌜ r ≡ goodCut self ⌝ }
     {
-        (1 <= self.lines) & (self.lines_to(self.total as u16) <= Self::MOST_LINES)
+        self.all_tall() & (self.lines_to(self.total) <= Self::MOST_LINES)
+    }
+
+    // Each segment has a line.
+    fn all_tall(self) -> bool
+        ensures { λ r. ⌜ r ≡ allTall self (self .total) ⌝ }
+    {
+        let mut k = 0;
+        while k < self.total {
+            k += 1;
+            if self.height_of(k) < 1 {
+                return false;
+            }
+        }
+        true
     }
 
     // The lines of segment k.
     pub fn height_of(self, k: u8) -> u16
         ensures { λ r. ⌜ r ≡ heightOf self k ⌝ }
     {
-        self.lines
+        if k < 1 {
+            return 0;
+        }
+        if k > 99 {
+            return 0;
+        }
+        let at = k as usize - 1;
+        self.heights[at]
     }
 
     // The lines of segments 1 to n.
-    pub fn lines_to(self, n: u16) -> u32
+    pub fn lines_to(self, n: u8) -> u32
         ensures { λ r. ⌜ r ≡ linesTo self n ⌝ }
     {
-        n as u32 * self.lines as u32
+        let mut sum = 0;
+        let mut k = 0;
+        while k < n {
+            k += 1;
+            sum += self.height_of(k) as u32;
+        }
+        sum
     }
 
     pub fn columns(self) -> u16
@@ -173,14 +225,14 @@ impl Slate {
     pub fn start_of(self, k: u8) -> usize
         ensures { λ r. ⌜ r ≡ startOf self k ⌝ }
     {
-        product(self.lines_to(down(k as u16)), self.columns)
+        product(self.lines_to(prior(k)), self.columns)
     }
 
     // The counts of the frame.
     pub fn frame_size(self) -> usize
         ensures { λ r. ⌜ r ≡ frameSize self ⌝ }
     {
-        product(self.lines_to(self.total as u16), self.columns)
+        product(self.lines_to(self.total), self.columns)
     }
 
     // Where a count stands in the frame: the one place where a line and a column meet.
@@ -195,18 +247,27 @@ impl Slate {
         ensures { λ r. ⌜ r ≡ hasLine self (line .0) ⌝ }
     {
         let n = line.0 as u32;
-        self.is_good() & ((1 <= n) & (n <= self.lines_to(self.total as u16)))
+        self.is_good() & ((1 <= n) & (n <= self.lines_to(self.total)))
     }
 
     // The number of the segment that covers a line; 0 where there is none.
     pub fn cover_of(self, line: Line) -> u8
         ensures { λ r. ⌜ r ≡ coverOr0 self (line .0) ⌝ }
     {
-        if self.has_line(line) {
-            ((line.0 - 1) / self.lines + 1) as u8
-        } else {
-            0
+        if !self.has_line(line) {
+            return 0;
         }
+        let n = line.0 as u32;
+        let mut k = 1;
+        let mut sum = 0;
+        while k < self.total {
+            sum += self.height_of(k) as u32;
+            if n <= sum {
+                return k;
+            }
+            k += 1;
+        }
+        k
     }
 
     // What is wrong with the slate, or else with the file, or else the first part in which the two differ.
@@ -260,7 +321,7 @@ impl Slate {
     {
         let stated = f.first as u64;
         let height = self.height_of(f.number) as u64;
-        let first = self.lines_to(down(f.number as u16)) as u64 + 1;
+        let first = self.lines_to(prior(f.number)) as u64 + 1;
         let c = further(c, Part::Columns, self.columns as u64, f.columns as u64);
         let c = further(c, Part::Total, self.total as u64, f.total as u64);
         let c = further(c, Part::Lines, height, f.lines as u64);
@@ -291,10 +352,35 @@ fn product(a: u32, b: u16) -> usize
 }
 
 // The number before one; none is before 0.
+fn prior(k: u8) -> u8
+    ensures { λ r. ⌜ r ≡ k - 1 ⌝ }
+{
+    down(k as u16) as u8
+}
+
 fn down(n: u16) -> u16
     ensures { λ r. ⌜ r ≡ n - 1 ⌝ }
 {
     if n < 1 { 0 } else { n - 1 }
+}
+
+fn within(inside: bool, height: u16) -> u16
+    ensures { λ r. ⌜ r ≡ cond inside height 0 ⌝ }
+{
+    if inside { height } else { 0 }
+}
+
+// The first `total` heights, and 0 in the room beyond them.
+fn kept(total: u8, heights: [u16; 99]) -> [u16; 99]
+    ensures { λ r. ⌜ r ≡ keptOf total heights ⌝ }
+{
+    let mut room = [0u16; 99];
+    let mut k = 0;
+    while k < 99 {
+        room[k] = within(k < total as usize, heights[k]);
+        k += 1;
+    }
+    room
 }
 
 // The four letters of an area.

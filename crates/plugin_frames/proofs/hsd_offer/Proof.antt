@@ -2,7 +2,6 @@ use mathlib.Core.Path.{_≡_, sym, ap, _∙_}
 use denote.Ref.{now}
 use lib.ListN.{length}
 use Rattle.rules.specs.Rules.{paper, after}
-use Rattle.slate.specs.Slates.{paperSlate}
 use Rattle.frame.specs.Frames.{offering}
 use Rattle.plugin.specs.Plugin.{shownRuling}
 use Rattle.plugin_frames.specs.Strips.{slateIn, slateC, goodMarks, marksIn, offeredC, offerMarks, offerStrip}
@@ -11,18 +10,21 @@ use borrow.Author.Needs.{needs}
 use Rattle.plugin_frames.proofs.hsd_offer.Statement.{statement}
 use Rattle.plugin_frames.proofs.hsd_offer.Tie as tie
 
-good : (c : tie.After-made2) → let a = c .before .before .before .before .before .before .before .before .args in Lent (a .slate) (goodMarks (now (a .marks))) (c .made2 .given .0 .0)
-unfolding paperSlate
-good c = lent-made _ _ _ (sym (ap paperSlate (c .made2 .given .1)) ∙ c .before .before .slate-of .ensures ∙ ap (slateC _) (c .before .before .before .good-marks .ensures))
+told : (c : tie.After-slate-of) → let a = c .before .before .before .before .before .before .args in slateC (a .slate) (goodMarks (now (a .marks))) ≡ paper (c .slate-of .result .verdict)
+told c = sym (c .slate-of .ensures .0 ∙ ap (slateC _) (c .before .good-marks .ensures))
+
+good : (c : tie.After-enum-told) → let k = c .before .before .before in let a = k .before .before .before .before .before .before .args in Lent (a .slate) (goodMarks (now (a .marks))) (k .slate-of .result .slate)
+unfolding paper
+good c = let k = c .before .before .before in lent-made _ _ _ (told k ∙ ap paper (c .enum-told .given .1)) (k .slate-of .ensures .1)
 
 keep-requires : tie.Need-keep-requires
-keep-requires c κs = good-long _ (good (c .before .before .before .before .before .before .before .before) .marks)
+keep-requires c κs = good-long _ (good (c .before .before .before .before .before .before .before) .marks)
 
 returns : tie.Need-returns
-unfolding paper after paperSlate offerMarks offerStrip
+unfolding paper after offerMarks offerStrip
 returns c =
     let made = c .before .before in
-    let r = lent-offered _ _ _ (sym (ap paperSlate (made .made .given .1)) ∙ made .before .before .slate-of .ensures ∙ ap (slateC _) (made .before .before .before .good-marks .ensures)) _ _ in
+    let r = lent-offered _ _ _ (told (made .before .before .before) ∙ ap paper (made .v .given .1)) _ _ in
     (c .answer-of .ensures ∙ ap shownRuling (sym r), (rw r, rw r))
 
 returns-2 : tie.Need-returns-2
@@ -31,9 +33,9 @@ returns-2 c =
     let kept = c .before .before in
     let called = kept .before .before .before .before in
     let taken = called .before .before in
-    let made = taken .before .before .before in
+    let made = taken .before .before in
     let g = good made in
-    let a = made .before .before .before .before .before .before .before .before .args in
+    let a = made .before .before .before .before .before .before .before .before .before .args in
     let s = slateIn (a .slate) in
     let m = now (a .marks) in
     let frame = now (a .frame) in

@@ -1,7 +1,8 @@
 use mathlib.Core.Path.{sym, ap, _∙_}
 use denote.Ref.{now}
 use Rattle.slate.specs.declared.Slate.{Slate}
-use Rattle.slate.specs.Slates.{paperSlate, paperReason, reasonOf}
+use Rattle.rules.specs.Rules.{paper}
+use Rattle.slate.specs.Slates.{paperReason, reasonOf}
 use Rattle.plugin_frames.specs.Reasons.{shownReason}
 use Rattle.plugin_frames.proofs.Lending.{lent-made, lent-why}
 use borrow.Author.Needs.{needs}
@@ -9,18 +10,19 @@ use Rattle.plugin_frames.proofs.hsd_why.Statement.{statement}
 use Rattle.plugin_frames.proofs.hsd_why.Tie as tie
 
 returns : tie.Need-returns
-unfolding paperSlate paperReason
+unfolding paper paperReason
 returns c =
     let made = c .before .before in
-    c .shown-reason .ensures ∙ ap shownReason (lent-why _ _ (sym (ap paperSlate (made .made .given .1)) ∙ made .before .before .slate-of .ensures) _)
+    c .shown-reason .ensures ∙ ap shownReason (sym (lent-why _ _ (sym (made .before .before .before .slate-of .ensures .0) ∙ ap paper (made .v .given .1)) _))
 
 returns-2 : tie.Need-returns-2
-unfolding paperSlate
+unfolding paper
 returns-2 c =
     let asked = c .before in
-    let made = asked .before .before in
-    let g = lent-made _ _ _ (sym (ap paperSlate (made .made2 .given .1)) ∙ made .before .before .slate-of .ensures) in
-    let file = made .before .before .before .before .args .file in
+    let made = asked .before in
+    let k = made .before .before .before in
+    let g = lent-made _ _ _ (sym (k .slate-of .ensures .0) ∙ ap paper (made .enum-told .given .1)) (k .slate-of .ensures .1) in
+    let file = k .before .before .args .file in
     c .shown-reason2 .ensures ∙ ap shownReason (asked .why .ensures ∙ ap (λ (s : Slate). reasonOf s (now file)) (sym (g .slate)))
 
 pub hsd-why-spec : {M : Type 1} → statement M

@@ -15,8 +15,8 @@ returns c =
     compares
     (also (c1 .further .ensures) refl refl
     (also (c2 .further2 .ensures) refl refl
-    (also (c3 .further3 .ensures) (to .before .before .before .height-of .ensures) refl
-    (also (c .further4 .ensures) (rw (to .lines-to .ensures, to .before .down .ensures)) refl none))))
+    (also (c3 .further3 .ensures) (to .before .before .height-of .ensures) refl
+    (also (c .further4 .ensures) (rw (to .lines-to .ensures, to .before .prior .ensures)) refl none))))
 
 pub compare-cut-spec : {M : Type 1} → statement M
 compare-cut-spec =
@@ -24,7 +24,6 @@ compare-cut-spec =
     (tie.spec
     (λ c. search needs)
     (λ c κs. search needs)
-    (λ c. search needs)
     (λ c. search needs)
     (λ c κs. search needs)
     (λ c κs. search needs)

@@ -7,4 +7,4 @@ returns : tie.Need-returns
 returns c = c .product .ensures .0 ∙ rw (c .before .lines-to .ensures)
 
 pub frame-size-spec : {M : Type 1} → statement M
-frame-size-spec = tie.close (tie.spec (λ c. search needs) (λ c κs. search needs) (λ c κs. search needs) returns)
+frame-size-spec = tie.close (tie.spec (λ c κs. search needs) (λ c κs. search needs) returns)

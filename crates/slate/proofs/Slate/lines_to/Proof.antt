@@ -1,17 +1,43 @@
-use mathlib.Core.Path.{refl}
+use mathlib.Core.Path.{_≡_, sym, ap, _∙_}
+use Prim.Native.Nat.{_*_, _-_, _≤_}
 use Rattle.slate.specs.Cut.{linesTo}
-use Rattle.slate.proofs.Cuts.{mul-most}
+use Rattle.slate.proofs.Cuts.{lines-none, lines-next}
 use native.Mathlib.Omega.{arith}
 use borrow.Author.Needs.{needs}
 use Rattle.slate.proofs.Slate.lines_to.Statement.{statement}
 use Rattle.slate.proofs.Slate.lines_to.Tie as tie
 
-mul-result : tie.Need-mul-result
-mul-result c = let a = c .before .args in omega (arith, mul-most (a .n) (a .self .lines) 65535 65535 (search needs) (search needs))
+abbrev Inv-loop : tie.InvT-loop
+Inv-loop self n sum₀ k₀ sum k = (k ≤ n) × (sum ≡ linesTo self k) × (sum ≤ 65535 * k)
 
-returns : tie.Need-returns
-unfolding linesTo
-returns c = refl
+abbrev μ-loop : tie.MeasureT-loop
+μ-loop self n sum₀ k₀ sum k = n - k
+
+loop-holds : tie.Need-loop-holds Inv-loop μ-loop
+loop-holds c = (search needs, sym (lines-none _), search needs)
+
+loop-again : tie.Need-loop-again Inv-loop μ-loop
+loop-again c =
+    let l = c .before .before in
+    (search needs, rw (lines-next (l .before .args .self) (l .loop .k), ← c .height-of .ensures, ← l .loop .inv .1), search needs)
+
+returns : tie.Need-returns Inv-loop μ-loop
+returns c =
+    let l = c .before in
+    let e : l .loop .k ≡ l .before .args .n = omega arith in
+    l .loop .inv .1 ∙ ap (linesTo (l .before .args .self)) e
 
 pub lines-to-spec : {M : Type 1} → statement M
-lines-to-spec = tie.close (tie.spec (λ c. search needs) mul-result returns)
+lines-to-spec =
+    tie.close
+    (tie.spec
+    Inv-loop
+    μ-loop
+    loop-holds
+    (λ c. search needs)
+    (λ c κs. search needs)
+    (λ c. search needs)
+    (λ c. search needs)
+    (λ c. search needs)
+    loop-again
+    returns)
