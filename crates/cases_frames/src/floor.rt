@@ -9,7 +9,6 @@ use libc::STDOUT_FILENO;
 use rules::Verdict;
 use slate::Line;
 use slate::Slate;
-use slate::Slated;
 
 const LEADER: [u16; 5] = [901, 902, 903, 904, 905];
 
@@ -87,12 +86,14 @@ fn show(strip: &[u16], p: [usize; 19]) {
 
 fn try_slate(p: [usize; 19]) {
     let slated = plan::slate_of(p);
-    match slated {
-        Slated::Refused(t) => {
+    let v = slated.verdict;
+    let slate = slated.slate;
+    match v {
+        Verdict::Refused(t) => {
             tell(Verdict::Refused(t));
             words::tell(words::END);
         }
-        Slated::Made(slate) => {
+        Verdict::Fine => {
             words::number(slate.frame_size());
             words::tell(words::COUNTS);
         }
@@ -137,9 +138,8 @@ fn act(deed: usize, slate: Slate, rec: Record, strip: &mut [u16; 128], p: [usize
 // Plays the steps of a table. What a step changes in the plan holds up to the next deed.
 pub(crate) fn play(title: &[u8], base: [usize; 19], t: &[usize]) {
     io::write_all(STDOUT_FILENO, title);
-    let Slated::Made(slate) = plan::slate_of(base) else {
-        return;
-    };
+    let slated = plan::slate_of(base);
+    let slate = slated.slate;
     let mut strip = [strip::BARE; 128];
     let mut rec = frame::empty();
     let mut p = base;

@@ -138,6 +138,7 @@ pub(crate) fn cut(
 }
 
 pub(crate) fn slate_of(p: [usize; 19]) -> Slated {
+    let heights = [short(p, LINES); 99];
     Slate::new(
         byte(p, SATELLITE),
         long(p, DAY),
@@ -146,7 +147,7 @@ pub(crate) fn slate_of(p: [usize; 19]) -> Slated {
         long(p, AREA),
         short(p, COLUMNS),
         byte(p, TOTAL),
-        short(p, LINES),
+        heights,
     )
 }
 

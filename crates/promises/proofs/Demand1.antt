@@ -19,7 +19,7 @@ use Rattle.header.specs.Places.{aOf, bOf, cOf}
 use Rattle.header.specs.Values.{headerOf}
 use Rattle.accept.specs.Checks.{shape, entries, shape1, fields1, fixed2, fields2, fixed5, fields5, fields7, sums, names, ends, blocks1to4, blocks5to7, blocks8to11, whole, checks}
 use Rattle.accept.specs.Answers.{factsOf, paperAnswer, answerOf}
-use Rattle.slate.specs.Slates.{slated, paperSlate, slateOf, asking, paperReason, reasonOf}
+use Rattle.slate.specs.Slates.{slated, blank, asking, paperReason, reasonOf}
 use Rattle.frame.specs.Frames.{opening, openFrame, ready, placing, offering, recordAfter, frameAfter}
 use Rattle.frame.specs.Lines.{shown}
 use Rattle.frame.proofs.Asking.{line-length, line-some}
@@ -186,9 +186,10 @@ pub of-frame-number : (κ : _) (a : _) (r : _) (t : _) → frame-number.Post κ 
 unfolding filmFrameOf shots inTable allowed
 of-frame-number κ a r t p u e = refuses-in (shots (a .0) (a .1 .0) (a .1 .1 .0) (a .1 .1 .1 .0)) refl _ u (sym p ∙ e)
 
-pub of-slate : (κ : _) (a : _) (r : _) (t : _) → new.Post κ a r t → (u : Turned) → paperSlate r ≡ refuses u → allowed u ≡ true
-unfolding slateOf slated inTable allowed
-of-slate κ a r t p u e = refuses-in (slated _) refl _ u (sym p ∙ e)
+-- and refused parts make no slate
+pub of-slate : (κ : _) (a : _) (r : _) (t : _) → new.Post κ a r t → (u : Turned) → paper (r .verdict) ≡ refused u → (allowed u ≡ true) × (r .slate ≡ blank)
+unfolding slated inTable allowed
+of-slate κ a r t p u e = let q = sym (p .says) ∙ e in (refused-in (slated _) refl u q, p .is ∙ left _ u _ _ q)
 
 pub in-asking : (s : _) (f : List ℕ) → inTable (asking s f) ≡ true
 unfolding asking slated tables inTable allowed

@@ -11,7 +11,7 @@ use Rattle.calendar.specs.Shots.{shot, paperSlot, slotOf, shots, paperFrame, fi
 use Rattle.header.specs.Places.{aOf, bOf, cOf}
 use Rattle.accept.specs.Checks.{checks}
 use Rattle.accept.specs.Answers.{factsOf, paperAnswer, answerOf}
-use Rattle.slate.specs.Slates.{slated, paperSlate, partsOf, slateOf, asking, paperReason, reasonOf}
+use Rattle.slate.specs.Slates.{slated, partsOf, asking, paperReason, reasonOf}
 use Rattle.frame.specs.Frames.{opening, offering}
 use Rattle.writer.specs.Given.{given}
 use Rattle.writer.specs.Sizes.{entriesFrom}
@@ -76,9 +76,8 @@ of-write κ a r t p = ruling _ (p .says)
 -- ---- slates, frames and film numbers
 
 pub of-slate : (κ : _) (a : _) (r : _) (t : _) → new.Post κ a r t → (u : Turned)
-    → (paperSlate r ≡ refuses u) ↔ First (slated (partsOf (a .0) (a .1 .0) (a .1 .1 .0) (a .1 .1 .1 .0) (a .1 .1 .1 .1 .0) (a .1 .1 .1 .1 .1 .0) (a .1 .1 .1 .1 .1 .1 .0) (a .1 .1 .1 .1 .1 .1 .1 .0))) u
-unfolding slateOf
-of-slate κ a r t p = answer _ _ p
+    → (paper (r .verdict) ≡ refused u) ↔ First (slated (partsOf (a .0) (a .1 .0) (a .1 .1 .0) (a .1 .1 .1 .0) (a .1 .1 .1 .1 .0) (a .1 .1 .1 .1 .1 .0) (a .1 .1 .1 .1 .1 .1 .0) (a .1 .1 .1 .1 .1 .1 .1 .0))) u
+of-slate κ a r t p = ruling _ (p .says)
 
 pub of-open : (κ : _) (a : _) (r : _) (t : _) → opens.Post κ a r t → (u : Turned) → (paper (r .verdict) ≡ refused u) ↔ First (opening (a .0) (length (now (a .1 .0)))) u
 of-open κ a r t p = ruling _ (p .0)

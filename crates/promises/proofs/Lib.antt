@@ -11,7 +11,10 @@ pub mod Calls
 pub mod Told
 pub mod Demand2
 pub mod Runs
+pub mod Heights
 pub mod Slated
+pub mod Cut
+pub mod Even
 pub mod Reasons
 pub mod Offers
 pub mod Why

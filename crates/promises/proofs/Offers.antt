@@ -16,7 +16,6 @@ use Rattle.rules.proofs.Judge.{judge-append, judge-refused}
 use Rattle.accept.specs.Checks.{checks}
 use Rattle.accept.specs.Answers.{factsOf}
 use Rattle.slate.specs.declared.Slate.{Slate}
-use Rattle.slate.specs.Cut.{linesTo}
 use Rattle.slate.specs.Slates.{slated, frameSize, matching}
 use Rattle.frame.specs.declared.Record.{Record}
 use Rattle.frame.specs.declared.Held.{Held}
@@ -30,9 +29,11 @@ use Rattle.plugin_frames.specs.Strips.{isBit, bitsFrom, goodMarks, lent, marksI
 use Rattle.plugin_frames.proofs.Lending.{lent-good}
 use Rattle.plugin_frames.proofs.hsd_offer.Reads as hsd-offer
 use Rattle.tiling.proofs.Lawful.{and}
+use Rattle.promises.specs.Heights.{linesOf}
 use Rattle.promises.specs.Slated.{Good, Match, slateFrom}
 use Rattle.promises.specs.Night.{answerOf}
 use Rattle.promises.specs.Why.{Accepted, Never, SoFarC, NeverC}
+use Rattle.promises.proofs.Heights.{whole-is}
 use Rattle.promises.proofs.Refusals.{left, shown-number}
 use Rattle.promises.proofs.Runs.{getD-flags}
 use Rattle.promises.proofs.Slated.{good-exactly, match-exactly, mark-at}
@@ -76,9 +77,8 @@ module _ (s : Slate) (f : List ℕ) (g : Good s) (ok : Accepted f) (marks : List
 
 -- ---- some offer answers 15
 
-pub size-is : (s : Slate) {n : ℕ} → n ≡ s .total * s .lines * s .columns → n ≡ frameSize s
-unfolding linesTo
-size-is s e = e
+pub size-is : (s : Slate) {n : ℕ} → n ≡ linesOf s (s .total) * s .columns → n ≡ frameSize s
+size-is s e = e ∙ sym (whole-is s)
 
 -- where a test's failing is absurd it holds
 so : (b : Bool) → (b ≡ false → ⊥) → b ≡ true
@@ -95,7 +95,7 @@ told = record { verdict = verdicts.Refused (record { why = OtherShot; block = 0;
 offers-fresh : (κ : _) (s : Slate) (file : RefT (List ℕ)) → Good s → Accepted (now file) → matching s (factsOf (now file)) ≡ false → offer.Post κ (fresh s file) told (fresh s file)
 unfolding paper recordAfter frameAfter
 offers-fresh κ s file g ok m =
-    let e = other s (now file) g ok noMarks _ m (none-at-all (s .total) (g .most-total)) (length-replicate {A = ℕ} (frameSize s) 65534) in
+    let e = other s (now file) g ok noMarks _ m (none-at-all (s .total) (g .parts .most-total)) (length-replicate {A = ℕ} (frameSize s) 65534) in
     (sym e, (sym (left _ _ _ _ e), sym (left _ _ _ _ e)))
 
 told-15 : paper (told .verdict) ≡ refused (turned 15 0 0)
@@ -130,7 +130,7 @@ module _ (s : HsdSlate) (f : List ℕ) (g : Good (slateFrom s)) (ok : Accepted f
   pub other-c : matching (slateFrom s) (factsOf f) ≡ false → SoFarC s m size → offeredC s m size f ≡ refused (turned 15 0 0)
   other-c h w =
       lent-good (goodMarks m) (offering (slateFrom s) (marksIn m) size f) (good-marks m (w .long) (w .bits))
-      ∙ other (slateFrom s) f g ok (marksIn m) size h (none-above-c m (s .total) (g .most-total) (w .above)) (size-is (slateFrom s) (w .frame))
+      ∙ other (slateFrom s) f g ok (marksIn m) size h (none-above-c m (s .total) (g .parts .most-total) (w .above)) (size-is (slateFrom s) (w .frame))
 
 -- an offer to a frame that was just opened
 abbrev fresh-c : HsdSlate → RefT (List ℕ) → HsdSlate × (RefT (List ℕ) × (RefT (List ℕ) × (RefT (List ℕ) × Unit {0})))
@@ -148,12 +148,11 @@ zero-at (suc n) zero = refl
 zero-at (suc n) (suc i) = zero-at n i
 
 so-far-fresh : (s : HsdSlate) → SoFarC s (replicate 99 0) (length (replicate {A = ℕ} (frameSize (slateFrom s)) 65534))
-unfolding linesTo
 so-far-fresh s = record {
   long = length-replicate {A = ℕ} 99 0;
   bits = λ i. rw (zero-at 99 i) (omega arith);
   above = λ i h. zero-at 99 i;
-  frame = length-replicate {A = ℕ} (frameSize (slateFrom s)) 65534;
+  frame = length-replicate {A = ℕ} (frameSize (slateFrom s)) 65534 ∙ whole-is (slateFrom s);
 }
 
 offers-fresh-c : (κ : _) (s : HsdSlate) (file : RefT (List ℕ)) → Good (slateFrom s) → Accepted (now file) → matching (slateFrom s) (factsOf (now file)) ≡ false

@@ -6,7 +6,7 @@ use Rattle.promises.specs.Answers.{One}
 use Rattle.rules.proofs.Paper.{paper-one}
 use Rattle.calendar.proofs.Paper.{paperDay-one, paperSlot-one, paperFrame-one}
 use Rattle.accept.proofs.Paper.{paperAnswer-one}
-use Rattle.slate.proofs.Paper.{paperSlate-one, paperReason-one}
+use Rattle.slate.proofs.Paper.{slated-one, paperReason-one}
 use Rattle.reel.proofs.Paper.{paperOpened-one}
 use Rattle.wire.proofs.byte_at.Reads as byte-at
 use Rattle.wire.proofs.left.Reads as left
@@ -315,7 +315,7 @@ pub calibration-one : One (λ κ x s. x) calibration.Post
 calibration-one κ a x y s t p q = p ∙ sym q
 
 pub slate-new-one : One (λ κ x s. x) slate-new.Post
-slate-new-one κ a x y s t p q = paperSlate-one x y (p ∙ sym q)
+slate-new-one κ a x y s t p q = slated-one x y p q
 
 pub slate-check-one : One (λ κ x s. x) slate-check.Post
 slate-check-one κ a x y s t p q = paper-one x y (p ∙ sym q)

@@ -3,8 +3,7 @@
 use mathlib.Core.Path.{_≡_, refl, sym, ap, subst, _∙_}
 use mathlib.Core.Bool.{Bool, true, false, cond}
 use mathlib.Core.List.{List, [], _∷_}
-use Prim.Native.Nat.{ℕ, _*_, _-_}
-use native.Mathlib.Nat.{add-comm}
+use Prim.Native.Nat.{ℕ}
 use native.Mathlib.Omega.{arith}
 use lib.Dec.{eqb}
 use borrow.Author.Tests.{eqb-true, eqb-false, eq-eqb, ne-eqb}
@@ -18,13 +17,13 @@ use Rattle.slate.specs.declared.Part.the-variants.{Satellite, Day, Timeline, Ba
 use Rattle.slate.specs.declared.Difference.{Difference}
 use Rattle.slate.specs.declared.Compared.{Compared}
 use Rattle.slate.specs.declared.Compared.the-variants.{Agrees, Differs}
-use Rattle.slate.specs.Cut.{heightOf, linesTo}
 use Rattle.slate.specs.Parts.{Sides, sides, further, compareAll, shotParts, cutParts, parts, comparing, isAgrees}
 use Rattle.slate.specs.Slates.{asking, reasonOf}
 use Rattle.plugin_frames.specs.Reasons.{shownReason}
 use Rattle.promises.specs.Slated.{Match}
 use Rattle.promises.specs.Why.{nine, Disagreement, Reasoned, Agreed, Differed, rank, ShownWhy}
 use Rattle.promises.specs.Why as words
+use Rattle.promises.proofs.Heights.{height-is, begin-is}
 use Rattle.promises.proofs.Slated.{match-exactly, slate-first, then-file, both-good, good-both}
 
 -- ---- the first disagreement
@@ -56,8 +55,8 @@ first-of (words.here {part} {slate} {file} {ps} h) = rw (ne-eqb slate file h) (s
 first-of (words.later {slate = slate} {file = file} e f) = rw (eq-eqb slate file e) (first-of f)
 
 nine-are : (s : Slate) (f : Facts) → parts s f ≡ nine s f
-unfolding shotParts cutParts heightOf linesTo
-nine-are s f = rw (add-comm 1 ((f .number - 1) * s .lines))
+unfolding shotParts cutParts
+nine-are s f = rw (height-is s (f .number), begin-is s (f .number))
 
 agrees-is : (c : Compared) → isAgrees c ≡ true → c ≡ Agrees
 agrees-is Agrees e = refl

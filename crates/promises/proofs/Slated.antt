@@ -2,8 +2,7 @@
 use mathlib.Core.Path.{_≡_, refl, sym, _∙_}
 use mathlib.Core.Logic.{_↔_, ⊎-elim, inl, inr}
 use mathlib.Core.Bool.{Bool, true, false, _&&_, _||_}
-use Prim.Native.Nat.{ℕ, zero, suc, _+_, _*_, _-_, _≤_, _<_}
-use native.Mathlib.Nat.{add-comm}
+use Prim.Native.Nat.{ℕ, zero, suc, _+_, _-_, _≤_, _<_}
 use native.Mathlib.Omega.{arith}
 use mathlib.Core.List.{List, [], _∷_}
 use lib.Dec.{eqb, leb}
@@ -17,7 +16,7 @@ use Rattle.format.specs.Ranges.{goodArea, goodSize, goodTotal}
 use Rattle.format.specs.Bands.{goodBand}
 use Rattle.accept.specs.declared.Facts.{Facts}
 use Rattle.slate.specs.declared.Slate.{Slate}
-use Rattle.slate.specs.Cut.{heightOf, linesTo, goodCut}
+use Rattle.slate.specs.Cut.{linesTo, allTall, goodCut}
 use Rattle.slate.specs.Parts.{shotParts, cutParts, parts}
 use Rattle.slate.specs.Slates.{goodShot, goodSlate, slated, matching, asking}
 use Rattle.slate.proofs.Parts.{same-exactly}
@@ -33,7 +32,9 @@ use Rattle.frame.proofs.tally.Reads as tally
 use Rattle.assembly.specs.History.{isFine, bears}
 use Rattle.assembly.proofs.Order.{not-so}
 use Rattle.promises.specs.Reels.{Own}
+use Rattle.promises.specs.Heights.{linesOf}
 use Rattle.promises.specs.Slated.{Good, Match, howMany}
+use Rattle.promises.proofs.Heights.{height-is, lines-are, begin-is, tall-exactly}
 
 within : (least n most : ℕ) → (leb least n && leb n most) ≡ true → (least ≤ n) × (n ≤ most)
 within least n most e = let h = both (leb least n) (leb n most) e in (leb-true least n (h .0), leb-true n most (h .1))
@@ -45,35 +46,38 @@ between a b = and (le-leb _ _ a) (le-leb _ _ b)
 
 module _ (s : Slate) (f : Facts) where
   match-is : matching s f ≡ true → Match s f
-  unfolding shotParts cutParts heightOf linesTo
+  unfolding shotParts cutParts
   match-is e =
       let h = same-exactly (parts s f) .0 e in
       let cut = h .1 .1 .1 .1 .1 in
       record {
-        satellite = sym (h .0);
-        day = sym (h .1 .0);
-        timeline = sym (h .1 .1 .0);
-        band = sym (h .1 .1 .1 .0);
-        area = sym (h .1 .1 .1 .1 .0);
-        columns = sym (cut .0);
-        total = sym (cut .1 .0);
-        lines = sym (cut .1 .1 .0);
-        first = sym (cut .1 .1 .1 .0) ∙ add-comm ((f .number - 1) * s .lines) 1;
+        parts = record {
+          satellite = sym (h .0);
+          day = sym (h .1 .0);
+          timeline = sym (h .1 .1 .0);
+          band = sym (h .1 .1 .1 .0);
+          area = sym (h .1 .1 .1 .1 .0);
+          columns = sym (cut .0);
+          total = sym (cut .1 .0);
+        };
+        lines = sym (cut .1 .1 .0) ∙ height-is s (f .number);
+        first = sym (cut .1 .1 .1 .0) ∙ begin-is s (f .number);
       }
 
   match-of : Match s f → matching s f ≡ true
-  unfolding shotParts cutParts heightOf linesTo
+  unfolding shotParts cutParts
   match-of m =
+      let p = m .parts in
       same-exactly (parts s f) .1
-      (holds (sym (m .satellite))
-      (holds (sym (m .day))
-      (holds (sym (m .timeline))
-      (holds (sym (m .band))
-      (holds (sym (m .area))
-      (holds (sym (m .columns))
-      (holds (sym (m .total))
-      (holds (sym (m .lines))
-      (holds (sym (m .first ∙ add-comm 1 ((f .number - 1) * s .lines))) tt)))))))))
+      (holds (sym (p .satellite))
+      (holds (sym (p .day))
+      (holds (sym (p .timeline))
+      (holds (sym (p .band))
+      (holds (sym (p .area))
+      (holds (sym (p .columns))
+      (holds (sym (p .total))
+      (holds (height-is s (f .number) ∙ sym (m .lines))
+      (holds (begin-is s (f .number) ∙ sym (m .first)) tt)))))))))
 
   pub match-exactly : (matching s f ≡ true) ↔ Match s f
   match-exactly = (match-is, match-of)
@@ -82,7 +86,7 @@ module _ (s : Slate) (f : Facts) where
 
 module _ (s : Slate) where
   good-is : goodSlate s ≡ true → Good s
-  unfolding goodSlate goodCut linesTo
+  unfolding goodSlate goodCut
   good-is e =
       let satellite = eqb (s .satellite) 8 || eqb (s .satellite) 9 in
       let day = goodDay (s .day) in
@@ -96,39 +100,42 @@ module _ (s : Slate) where
       let h4 = both (satellite && day && timeline) band (h5 .0) in
       let h3 = both (satellite && day) timeline (h4 .0) in
       let h2 = both satellite day (h3 .0) in
-      let cut = both (leb 1 (s .lines)) (leb (s .total * s .lines) 22000) (h8 .1) in
+      let cut = both (allTall s (s .total)) (leb (linesTo s (s .total)) 22000) (h8 .1) in
       record {
-        satellite = ⊎-elim (λ q. inl (eqb-true _ _ q)) (λ q. inr (eqb-true _ _ q)) (either (eqb (s .satellite) 8) (eqb (s .satellite) 9) (h2 .0));
-        first-day = within 51544 (s .day) 88068 (h2 .1) .0;
-        last-day = within 51544 (s .day) 88068 (h2 .1) .1;
-        timeline = timeline-is (s .timeline) (h3 .1);
-        some-band = within 1 (s .band) 16 (h4 .1) .0;
-        last-band = within 1 (s .band) 16 (h4 .1) .1;
-        area = area-is (digits 1 4 (s .area)) (length-digits _ _ _) (h5 .1);
-        some-columns = within 1 (s .columns) 22000 (h6 .1) .0;
-        most-columns = within 1 (s .columns) 22000 (h6 .1) .1;
-        some-total = within 1 (s .total) 99 (h7 .1) .0;
-        most-total = within 1 (s .total) 99 (h7 .1) .1;
-        some-lines = leb-true _ _ (cut .0);
-        most-lines = leb-true _ _ (cut .1);
+        parts = record {
+          satellite = ⊎-elim (λ q. inl (eqb-true _ _ q)) (λ q. inr (eqb-true _ _ q)) (either (eqb (s .satellite) 8) (eqb (s .satellite) 9) (h2 .0));
+          first-day = within 51544 (s .day) 88068 (h2 .1) .0;
+          last-day = within 51544 (s .day) 88068 (h2 .1) .1;
+          timeline = timeline-is (s .timeline) (h3 .1);
+          some-band = within 1 (s .band) 16 (h4 .1) .0;
+          last-band = within 1 (s .band) 16 (h4 .1) .1;
+          area = area-is (digits 1 4 (s .area)) (length-digits _ _ _) (h5 .1);
+          some-columns = within 1 (s .columns) 22000 (h6 .1) .0;
+          most-columns = within 1 (s .columns) 22000 (h6 .1) .1;
+          some-total = within 1 (s .total) 99 (h7 .1) .0;
+          most-total = within 1 (s .total) 99 (h7 .1) .1;
+        };
+        tall = tall-exactly s (s .total) .0 (cut .0);
+        most-lines = rw (← lines-are s (s .total)) (leb-true _ _ (cut .1));
       }
 
   good-of : Good s → goodSlate s ≡ true
-  unfolding goodSlate goodCut linesTo
+  unfolding goodSlate goodCut
   good-of g =
+      let p = g .parts in
       and
       (and
       (and
       (and
       (and
       (and
-      (and (⊎-elim (λ e. or-left _ (eqb (s .satellite) 9) (eq-eqb _ _ e)) (λ e. or-right (eqb (s .satellite) 8) _ (eq-eqb _ _ e)) (g .satellite)) (between (g .first-day) (g .last-day)))
-      (timeline-of (s .timeline) (g .timeline)))
-      (between (g .some-band) (g .last-band)))
-      (area-of (digits 1 4 (s .area)) (g .area)))
-      (between (g .some-columns) (g .most-columns)))
-      (between (g .some-total) (g .most-total)))
-      (and (le-leb _ _ (g .some-lines)) (le-leb _ _ (g .most-lines)))
+      (and (⊎-elim (λ e. or-left _ (eqb (s .satellite) 9) (eq-eqb _ _ e)) (λ e. or-right (eqb (s .satellite) 8) _ (eq-eqb _ _ e)) (p .satellite)) (between (p .first-day) (p .last-day)))
+      (timeline-of (s .timeline) (p .timeline)))
+      (between (p .some-band) (p .last-band)))
+      (area-of (digits 1 4 (s .area)) (p .area)))
+      (between (p .some-columns) (p .most-columns)))
+      (between (p .some-total) (p .most-total)))
+      (and (tall-exactly s (s .total) .1 (g .tall)) (le-leb (linesTo s (s .total)) 22000 (rw (lines-are s (s .total)) (g .most-lines))))
 
   pub good-exactly : (goodSlate s ≡ true) ↔ Good s
   good-exactly = (good-is, good-of)

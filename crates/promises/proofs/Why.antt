@@ -59,7 +59,7 @@ module _ (κ : _) (a : _) (r : _) (t : _) (p : why.Post κ a r t) where
       let w = differs e in
       sym (answered κ' o r' t' p' es ef)
       ∙ other (a .0) (now (a .1 .0)) (w .slate) (w .file) (o .1 .0 .marks) (length (now (o .1 .1 .0))) (ap isAgrees (one-differs (a .0) (now (a .1 .0)) (w .first)))
-      (none-above (o .1 .0 .marks) (a .0 .total) (w .slate .most-total) (h .above))
+      (none-above (o .1 .0 .marks) (a .0 .total) (w .slate .parts .most-total) (h .above))
       (size-is (a .0) (h .frame))
 
   -- of a good slate and an accepted file "agrees" is said exactly when offering could not answer 15

@@ -9,7 +9,9 @@ pub mod Told
 pub mod Short
 pub mod Order
 pub mod Runs
+pub mod Heights
 pub mod Slated
+pub mod Even
 pub mod Quality
 pub mod Reels
 pub mod Night

@@ -1,18 +1,22 @@
--- What document 01 says of a slate and of the files that match it, in its own words: nothing here is taken from the tests that the functions make.
-use Prim.Native.Nat.{ℕ, zero, suc, _+_, _*_, _-_, _≤_}
+-- What document 01 says of a slate and of the files that match it, in its own words, with document 02's heights: nothing here is taken from the tests that the functions make.
+use Prim.Native.Nat.{ℕ, zero, suc, _+_, _-_, _≤_}
 use mathlib.Core.Bool.{Bool, cond}
 use mathlib.Core.List.{List}
 use mathlib.Core.Path.{_≡_}
 use mathlib.Core.Logic.{_⊎_}
 use Rattle.wire.specs.Wire.{digits}
 use Rattle.accept.specs.declared.Facts.{Facts}
+use Rattle.rules.specs.Rules.{turned, fine, paper}
+use Rattle.rules.specs.Rules as ruling
 use Rattle.slate.specs.declared.Slate.{Slate}
+use Rattle.slate.specs.declared.Slated.{Slated}
 use Rattle.frame.specs.Records.{marked}
 use Rattle.plugin_frames.specs.declared.HsdSlate.{HsdSlate}
 use Rattle.tiling.specs.Lawful.{Area, Timeline}
+use Rattle.promises.specs.Heights.{height, linesOf, given}
 
--- good when each part is in range (day 51,544 to 88,068), L is at least 1 and N x L is at most 22,000
-pub record Good (s : Slate) : Type 0 where
+-- each part is in range (day 51,544 to 88,068)
+pub record InRange (s : Slate) : Type 0 where
   pub satellite : (s .satellite ≡ 8) ⊎ (s .satellite ≡ 9)
   pub first-day : 51544 ≤ s .day
   pub last-day : s .day ≤ 88068
@@ -24,11 +28,24 @@ pub record Good (s : Slate) : Type 0 where
   pub most-columns : s .columns ≤ 22000
   pub some-total : 1 ≤ s .total
   pub most-total : s .total ≤ 99
-  pub some-lines : 1 ≤ s .lines
-  pub most-lines : s .total * s .lines ≤ 22000
 
--- a file matches when all the slate's parts agree, its lines are L and its first line is 1 + (number - 1) x L
-pub record Match (s : Slate) (f : Facts) : Type 0 where
+-- good when so, each height is at least 1 and their sum is at most 22,000
+pub record Good (s : Slate) : Type 0 where
+  pub parts : InRange s
+  pub tall : (k : ℕ) → 1 ≤ k → k ≤ s .total → 1 ≤ height s k
+  pub most-lines : linesOf s (s .total) ≤ 22000
+
+-- a line of a good slate's frame
+abbrev pub InFrame : Slate → ℕ → Type 0
+InFrame s line = Good s × (1 ≤ line) × (line ≤ linesOf s (s .total))
+
+-- what is said of a slate's parts: good ones make it, and bad ones are SLATE and make none that is good
+pub record Makes (s : Slate) (r : Slated) : Type 0 where
+  pub made : Good s → (paper (r .verdict) ≡ fine) × (r .slate ≡ s)
+  pub refused : (Good s → ⊥) → (paper (r .verdict) ≡ ruling.refused (turned 13 0 0)) × (Good (r .slate) → ⊥)
+
+-- all the slate's parts agree
+pub record Alike (s : Slate) (f : Facts) : Type 0 where
   pub satellite : f .satellite ≡ s .satellite
   pub day : f .day ≡ s .day
   pub timeline : f .timeline ≡ s .timeline
@@ -36,21 +53,16 @@ pub record Match (s : Slate) (f : Facts) : Type 0 where
   pub area : f .area ≡ s .area
   pub columns : f .columns ≡ s .columns
   pub total : f .total ≡ s .total
-  pub lines : f .lines ≡ s .lines
-  pub first : f .first ≡ 1 + (f .number - 1) * s .lines
+
+-- a file matches when so, and its lines are its number's height and its first line comes after those of the segments before it
+pub record Match (s : Slate) (f : Facts) : Type 0 where
+  pub parts : Alike s f
+  pub lines : f .lines ≡ height s (f .number)
+  pub first : f .first ≡ 1 + linesOf s (f .number - 1)
 
 -- a slate in C's struct: each number under its name
 abbrev pub slateFrom : HsdSlate → Slate
-slateFrom s = record {
-  satellite = s .satellite;
-  day = s .day;
-  timeline = s .timeline;
-  band = s .band;
-  area = s .area;
-  columns = s .columns;
-  total = s .total;
-  lines = s .lines;
-}
+slateFrom s = given (s .satellite) (s .day) (s .timeline) (s .band) (s .area) (s .columns) (s .total) (s .heights)
 
 -- how many of the n numbers from k on are marked
 abbrev pub howMany : List Bool → ℕ → ℕ → ℕ

@@ -22,9 +22,10 @@ use Rattle.plugin_frames.specs.declared.HsdSlate.{HsdSlate}
 use Rattle.plugin_frames.specs.declared.HsdWhy.{HsdWhy}
 use Rattle.plugin_frames.proofs.hsd_offer.Reads as hsd-offer
 use Rattle.promises.specs.Reels.{Own}
-use Rattle.promises.specs.Slated.{Good, Match}
+use Rattle.promises.specs.Heights.{height, linesOf}
+use Rattle.promises.specs.Slated.{Good, Match, slateFrom}
 
--- The parts in the ask's order, each with the slate's value and the file's. The slate's first line is where the segment of the file's number should begin.
+-- The parts in the ask's order, each with the slate's value and the file's. The slate's lines and first line are those of the segment of the file's number.
 abbrev pub nine : Slate → Facts → List Sides
 nine s f =
     sides Satellite (s .satellite) (f .satellite)
@@ -34,8 +35,8 @@ nine s f =
     ∷ sides Area (s .area) (f .area)
     ∷ sides Columns (s .columns) (f .columns)
     ∷ sides Total (s .total) (f .total)
-    ∷ sides Lines (s .lines) (f .lines)
-    ∷ sides FirstLine (1 + (f .number - 1) * s .lines) (f .first)
+    ∷ sides Lines (height s (f .number)) (f .lines)
+    ∷ sides FirstLine (1 + linesOf s (f .number - 1)) (f .first)
     ∷ []
 
 -- the first disagreement: that part differs, and all earlier ones agree
@@ -65,10 +66,10 @@ pub record Differed (s : Slate) (f : List ℕ) (d : Difference) : Type 0 where
   pub file : Accepted f
   pub first : Disagreement (nine s (factsOf f)) d
 
--- an offer gets so far that the file is compared with the slate: no number above N is in, and the frame has N x L x columns counts
+-- an offer gets so far that the file is compared with the slate: no number above N is in, and the frame has a count for each column of each line
 pub record SoFar (s : Slate) (marks : List Bool) (size : ℕ) : Type 0 where
   pub above : (k : ℕ) → s .total < k → marked marks k ≡ false
-  pub frame : size ≡ s .total * s .lines * s .columns
+  pub frame : size ≡ linesOf s (s .total) * s .columns
 
 -- offering could not answer 15: no call does with that slate and file, whatever the record and the frame are
 abbrev pub Never : Slate → List ℕ → Type 0
@@ -102,7 +103,7 @@ pub record SoFarC (s : HsdSlate) (marks : List ℕ) (size : ℕ) : Type 0 where
   pub long : length marks ≡ 99
   pub bits : (i : ℕ) → getD marks i 0 ≤ 1
   pub above : (i : ℕ) → s .total ≤ i → getD marks i 0 ≡ 0
-  pub frame : size ≡ s .total * s .lines * s .columns
+  pub frame : size ≡ linesOf (slateFrom s) (s .total) * s .columns
 
 abbrev pub NeverC : HsdSlate → List ℕ → Type 0
 NeverC s f = (κ : _) (a : _) (r : _) (t : _) → hsd-offer.Post κ a r t → a .0 ≡ s → now (a .1 .1 .1 .0) ≡ f → r .refusal ≡ 15 → ⊥

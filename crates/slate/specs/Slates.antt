@@ -39,7 +39,7 @@ unfoldable pub slated : Slate → List Row
 slated s = row (goodSlate s) 13 0 0 ∷ []
 
 -- the N heights, and 0 in the room beyond them
-unfoldable pub keptOf : ℕ → List ℕ → List ℕ
+abbrev pub keptOf : ℕ → List ℕ → List ℕ
 keptOf total heights = tab (λ k. cond (ltb k total) (getD heights k 0) 0) 99
 
 -- the parts of a slate, in the paper's order, without what stands beyond the Nth height

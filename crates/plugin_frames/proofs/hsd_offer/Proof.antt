@@ -11,11 +11,14 @@ use Rattle.plugin_frames.proofs.hsd_offer.Statement.{statement}
 use Rattle.plugin_frames.proofs.hsd_offer.Tie as tie
 
 told : (c : tie.After-slate-of) → let a = c .before .before .before .before .before .before .args in slateC (a .slate) (goodMarks (now (a .marks))) ≡ paper (c .slate-of .result .verdict)
-told c = sym (c .slate-of .ensures .0 ∙ ap (slateC _) (c .before .good-marks .ensures))
+told c = sym (c .slate-of .ensures .0 ∙ ap (slateC (c .before .before .before .before .before .before .args .slate)) (c .before .good-marks .ensures))
 
 good : (c : tie.After-enum-told) → let k = c .before .before .before in let a = k .before .before .before .before .before .before .args in Lent (a .slate) (goodMarks (now (a .marks))) (k .slate-of .result .slate)
 unfolding paper
-good c = let k = c .before .before .before in lent-made _ _ _ (told k ∙ ap paper (c .enum-told .given .1)) (k .slate-of .ensures .1)
+good c =
+    let k = c .before .before .before in
+    let a = k .before .before .before .before .before .before .args in
+    lent-made (a .slate) (goodMarks (now (a .marks))) _ (told k ∙ ap paper (c .enum-told .given .1)) (k .slate-of .ensures .1)
 
 keep-requires : tie.Need-keep-requires
 keep-requires c κs = good-long _ (good (c .before .before .before .before .before .before .before) .marks)
@@ -24,7 +27,9 @@ returns : tie.Need-returns
 unfolding paper after offerMarks offerStrip
 returns c =
     let made = c .before .before in
-    let r = lent-offered _ _ _ (told (made .before .before .before) ∙ ap paper (made .v .given .1)) _ _ in
+    let k = made .before .before .before in
+    let a = k .before .before .before .before .before .before .args in
+    let r = lent-offered (a .slate) (now (a .marks)) _ (told k ∙ ap paper (made .v .given .1)) (length (now (a .frame))) (now (a .file)) in
     (c .answer-of .ensures ∙ ap shownRuling (sym r), (rw r, rw r))
 
 returns-2 : tie.Need-returns-2

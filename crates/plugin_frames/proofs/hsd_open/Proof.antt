@@ -13,7 +13,10 @@ use Rattle.plugin_frames.proofs.hsd_open.Tie as tie
 
 good : (c : tie.After-enum-told) → let k = c .before .before .before in let a = k .before .before .before .args in Lent (a .slate) (longMarks (now (a .marks))) (k .slate-of .result .slate)
 unfolding paper
-good c = let k = c .before .before .before in lent-made _ _ _ (sym (k .slate-of .ensures .0) ∙ ap paper (c .enum-told .given .1)) (k .slate-of .ensures .1)
+good c =
+    let k = c .before .before .before in
+    let a = k .before .before .before .args in
+    lent-made (a .slate) (longMarks (now (a .marks))) _ (sym (k .slate-of .ensures .0) ∙ ap paper (c .enum-told .given .1)) (k .slate-of .ensures .1)
 
 keep-requires : tie.Need-keep-requires
 keep-requires c κs = eqb-true _ 99 (good (c .before .before .before .before .before) .marks)
@@ -23,7 +26,8 @@ unfolding paper after openMarks openStrip
 returns c =
     let made = c .before .before in
     let k = made .before .before .before in
-    let r = lent-opened _ (now (k .before .before .before .args .marks)) _ (sym (k .slate-of .ensures .0) ∙ ap paper (made .v .given .1)) _ in
+    let a = k .before .before .before .args in
+    let r = lent-opened (a .slate) (now (a .marks)) _ (sym (k .slate-of .ensures .0) ∙ ap paper (made .v .given .1)) (length (now (a .frame))) in
     (c .answer-of .ensures ∙ ap shownRuling (sym r), (rw r, rw r))
 
 returns-2 : tie.Need-returns-2

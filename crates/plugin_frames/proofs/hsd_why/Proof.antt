@@ -1,4 +1,5 @@
 use mathlib.Core.Path.{sym, ap, _∙_}
+use mathlib.Core.Bool.{true}
 use denote.Ref.{now}
 use Rattle.slate.specs.declared.Slate.{Slate}
 use Rattle.rules.specs.Rules.{paper}
@@ -13,7 +14,9 @@ returns : tie.Need-returns
 unfolding paper paperReason
 returns c =
     let made = c .before .before in
-    c .shown-reason .ensures ∙ ap shownReason (sym (lent-why _ _ (sym (made .before .before .before .slate-of .ensures .0) ∙ ap paper (made .v .given .1)) _))
+    let k = made .before .before .before in
+    let a = k .before .before .args in
+    c .shown-reason .ensures ∙ ap shownReason (sym (lent-why (a .slate) _ (sym (k .slate-of .ensures .0) ∙ ap paper (made .v .given .1)) (now (a .file))))
 
 returns-2 : tie.Need-returns-2
 unfolding paper
@@ -21,9 +24,9 @@ returns-2 c =
     let asked = c .before in
     let made = asked .before in
     let k = made .before .before .before in
-    let g = lent-made _ _ _ (sym (k .slate-of .ensures .0) ∙ ap paper (made .enum-told .given .1)) (k .slate-of .ensures .1) in
-    let file = k .before .before .args .file in
-    c .shown-reason2 .ensures ∙ ap shownReason (asked .why .ensures ∙ ap (λ (s : Slate). reasonOf s (now file)) (sym (g .slate)))
+    let a = k .before .before .args in
+    let g = lent-made (a .slate) true _ (sym (k .slate-of .ensures .0) ∙ ap paper (made .enum-told .given .1)) (k .slate-of .ensures .1) in
+    c .shown-reason2 .ensures ∙ ap shownReason (asked .why .ensures ∙ ap (λ (s : Slate). reasonOf s (now (a .file))) (sym (g .slate)))
 
 pub hsd-why-spec : {M : Type 1} → statement M
 hsd-why-spec =

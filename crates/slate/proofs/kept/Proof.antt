@@ -6,7 +6,6 @@ use lib.Dec.{ltb}
 use lib.ListN.{length, getD, drop, replicate}
 use Rattle.wire.specs.Wire.{tab}
 use Rattle.wire.proofs.Rows.{tab-turn}
-use Rattle.slate.specs.Slates.{keptOf}
 use native.Mathlib.Omega.{arith}
 use borrow.Author.Needs.{needs}
 use Rattle.slate.proofs.kept.Statement.{statement}
@@ -26,7 +25,6 @@ loop-again : tie.Need-loop-again Inv-loop μ-loop
 loop-again c = (tab-turn _ (replicate 99 0) (c .before .before .loop .inv .0) (c .within .ensures) (search needs), search needs)
 
 returns : tie.Need-returns Inv-loop μ-loop
-unfolding keptOf
 returns c = let e : c .before .loop .k ≡ 99 = omega arith in (rw (e, append-nil) at (c .before .loop .inv .0))
 
 pub kept-spec : {M : Type 1} → statement M
