@@ -1,3 +1,5 @@
 -- The laws of the loops.
 pub mod Digits
+pub mod Heights
 pub mod NoNan
+pub mod Parts

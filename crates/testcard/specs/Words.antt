@@ -1,8 +1,8 @@
--- What a word spells.
+-- What a word spells, and its parts between pluses.
 use Prim.Native.Nat.{ℕ, _+_, _*_, _-_, min}
 use mathlib.Core.Bool.{cond}
 use mathlib.Core.List.{List, [], _∷_}
-use lib.Dec.{ltb}
+use lib.Dec.{eqb, ltb}
 
 -- n with the digit b behind it, or 65,535: where b is no digit, and where the number is larger
 abbrev pub longerBy : ℕ → ℕ → ℕ
@@ -17,3 +17,18 @@ numberFrom n (b ∷ s) = numberFrom (longerBy n b) s
 unfoldable pub numberOf : List ℕ → ℕ
 numberOf [] = 65535
 numberOf (b ∷ s) = numberFrom 0 (b ∷ s)
+
+-- the pluses in a word
+unfoldable pub plusesIn : List ℕ → ℕ
+plusesIn [] = 0
+plusesIn (b ∷ s) = cond (eqb b 43) (plusesIn s + 1) (plusesIn s)
+
+-- what stands ahead of a word's first plus
+unfoldable pub aheadOf : List ℕ → List ℕ
+aheadOf [] = []
+aheadOf (b ∷ s) = cond (eqb b 43) [] (b ∷ aheadOf s)
+
+-- what stands behind k pluses; nothing, where there are fewer
+unfoldable pub behindOf : List ℕ → ℕ → List ℕ
+behindOf [] k = []
+behindOf (b ∷ s) k = cond (eqb k 0) (b ∷ s) (behindOf s (cond (eqb b 43) (k - 1) k))

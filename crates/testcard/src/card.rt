@@ -36,17 +36,16 @@ fn moved_by(slot: u64) -> u32
     (RING / 149 * parts) as u32
 }
 
-// The frame of a header's shot.
-pub(crate) fn frame_of(h: Header) -> Frame {
+// The frame of a header's shot, of so many lines.
+pub(crate) fn frame_of(h: Header, lines: u32) -> Frame {
     let block1 = h.block1;
     let block2 = h.block2;
     let block5 = h.block5;
-    let block7 = h.block7;
     let name = block1.name;
     let day = format::day_or_0(format::date_of(name));
     Frame {
         columns: block2.columns,
-        lines: (block2.lines as u32) * (block7.total as u32),
+        lines,
         bits: block5.bits,
         moved: moved_by(slot_of(day, block1.timeline)),
     }

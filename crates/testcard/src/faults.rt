@@ -10,7 +10,9 @@ fn line(what: &[u8]) {
 }
 
 pub(crate) fn usage() {
-    line(b"arguments: satellite date timeline band area columns lines number total byte-order");
+    line(
+        b"arguments: satellite date timeline band area columns lines number total byte-order, the lines as one number or as each segment's, joined by +",
+    );
 }
 
 // The writer's refusals in the words of the arguments: there is room, and there are no entries to refuse.
@@ -24,7 +26,9 @@ fn refusal(t: Refusal) {
             b"the area must be FLDK, JP01 to JP04, R301 to R304, R401 to R420 or R501 to R520",
         ),
         33 => line(b"the timeline must be hhmm, by tens of minutes"),
-        34 => line(b"columns and lines must be 1 to 22000"),
+        34 => line(
+            b"columns and lines must be 1 to 22000; lines joined by + as many as the total, and 22000 at most in all",
+        ),
         36 => line(b"the band must be 1 to 16"),
         _ => line(
             b"the total must be 1 to 99, the number 1 to the total, and the last line 22000 at most",

@@ -1,8 +1,10 @@
 // Writes one good segment of any size, a test card, to standard output. Its arguments: satellite, date (yyyymmdd), timeline (hhmm), band,
-// area, columns, lines, number, total and byte order, as in `testcard 8 20150707 0200 13 FLDK 5500 550 3 10 0`. The writer judges them: what
-// it refuses is told in one line on standard error, and nothing is written.
+// area, columns, lines, number, total and byte order, as in `testcard 8 20150707 0200 13 FLDK 5500 550 3 10 0`. The lines are one number for
+// all segments, or a number for each, as `900+1850+1850+900` of a total of 4. The writer judges them: what it refuses is told in one line on
+// standard error, and nothing is written.
 mod card;
 mod carried;
+mod cut;
 mod faults;
 mod reals;
 mod values;
@@ -35,15 +37,20 @@ fn send_counts(f: Frame, first: u16, lines: u16, order: u8) -> bool {
     true
 }
 
-// Writes a header that the writer took, and its counts.
-fn send(out: &[u8], h: Header) -> bool {
+// Writes a header that the writer took, and its counts, of a frame of so many lines.
+fn send(out: &[u8], h: Header, all: u32) -> bool {
     let block1 = h.block1;
     let block2 = h.block2;
     let block7 = h.block7;
     if !io::write_all(STDOUT_FILENO, out) {
         return false;
     }
-    send_counts(card::frame_of(h), block7.first, block2.lines, block1.order)
+    send_counts(
+        card::frame_of(h, all),
+        block7.first,
+        block2.lines,
+        block1.order,
+    )
 }
 
 fn main() {
@@ -51,13 +58,15 @@ fn main() {
         faults::usage();
         return;
     }
-    let h = values::header_of(words::read());
+    let a = words::read();
+    let cut = cut::read(a.number, a.total);
+    let h = values::header_of(a, cut);
     let mut out = [0u8; 1463];
     let v = writer::write(&mut out, h, &[], &[], &[], &[], &[], &[], &[]);
     if faults::told(v) {
         return;
     }
-    if !send(&out, h) {
+    if !send(&out, h, cut.all) {
         os::fail(b"testcard: standard output");
     }
 }

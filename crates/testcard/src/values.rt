@@ -1,6 +1,8 @@
 // The header's values of a segment that was asked for: a sample's, with texts, times and what the paper says of blocks 3 to 6.
 use crate::carried;
+use crate::cut::Cut;
 use crate::reals;
+use crate::words;
 use crate::words::Asked;
 use header::Header;
 use samples::Plan;
@@ -14,17 +16,8 @@ fn satellite(number: u16) -> u8 {
     }
 }
 
-// The line that a segment starts with, when all are alike; 0 and 65,535 are no such lines.
-fn first_line(number: u8, lines: u16) -> u16 {
-    if number == 0 {
-        return 0;
-    }
-    let first = 1 + (number as u32 - 1) * (lines as u32);
-    if first < 65535 { first as u16 } else { 65535 }
-}
-
 // All but the date, which may be no number.
-fn plan_of(a: Asked) -> Plan {
+fn plan_of(a: Asked, cut: Cut) -> Plan {
     let area = a.area;
     let mut p = samples::paper();
     p.order = a.order;
@@ -33,21 +26,22 @@ fn plan_of(a: Asked) -> Plan {
     p.band = a.band;
     p.area = wire::u32_at(&area, 0, 1);
     p.columns = a.columns;
-    p.lines = a.lines;
+    p.lines = cut.lines;
     p.number = a.number;
     p.total = a.total;
-    p.first = first_line(a.number, a.lines);
+    p.first = cut.first;
     p
 }
 
-// All lines of the frame; one that has more is refused.
-fn all_lines(lines: u16, total: u8) -> u16 {
-    let n = (lines as u32) * (total as u32);
-    if n < 65535 { n as u16 } else { 65535 }
+// The centre, the version, and the day of the name.
+fn put_texts(out: &mut [u8; 1463], date: [u8; 8]) {
+    wire::put(out, 22, b"MSC");
+    wire::put(out, 82, b"1.1");
+    wire::put(out, 121, &date);
 }
 
 // The day of a header's name, and the timeline's minutes, as Modified Julian Days.
-fn shot_time(out: &[u8], timeline: u16) -> f64 {
+fn shot_time(out: &[u8; 1463], timeline: u16) -> f64 {
     let mut name = [0u8; 128];
     wire::fill(&mut name, out, 114);
     let day = format::day_or_0(format::date_of(name));
@@ -67,21 +61,19 @@ fn values_of(file: &[u8; 1463]) -> Header {
     header::read_header(file)
 }
 
-pub(crate) fn header_of(a: Asked) -> Header {
+pub(crate) fn header_of(a: Asked, cut: Cut) -> Header {
     let date = a.date;
     let resolution = format::band_of(a.band).resolution;
     let mut out = [0u8; 1463];
-    samples::make(&mut out, plan_of(a));
-    wire::put(&mut out, 22, b"MSC");
-    wire::put(&mut out, 82, b"1.1");
-    wire::put(&mut out, 121, &date);
+    samples::make(&mut out, plan_of(a, cut));
+    put_texts(&mut out, date);
     let shot = shot_time(&out, a.timeline);
     put_times(&mut out, shot, a.number, a.total, a.order);
     carried::put_projection(
         &mut out,
         resolution,
         a.columns,
-        all_lines(a.lines, a.total),
+        words::short(cut.all),
         a.order,
     );
     carried::put_navigation(&mut out, shot, a.order);

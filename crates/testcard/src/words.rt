@@ -1,8 +1,10 @@
 // The program's arguments, each as the value that it must be. A word that is none becomes a value that the writer refuses.
 ghost use mathlib.Core.Path.{_≡_};
-ghost use Rattle.testcard.specs.Words.{longerBy, numberOf};
+ghost use Prim.Native.Nat.{_≤_, min};
+ghost use lib.ListN.{length};
+ghost use Rattle.testcard.specs.Words.{longerBy, numberOf, plusesIn, aheadOf, behindOf};
 
-// What was asked for.
+// What was asked for, but for the lines.
 pub struct Asked {
     pub satellite: u16,
     pub date: [u8; 8],
@@ -10,14 +12,22 @@ pub struct Asked {
     pub band: u16,
     pub area: [u8; 4],
     pub columns: u16,
-    pub lines: u16,
     pub number: u8,
     pub total: u8,
     pub order: u8,
 }
 
 // No range of the format reaches this number, and no digit behind it makes another of it.
-const NONE: u16 = 65535;
+pub(crate) const NONE: u16 = 65535;
+
+const PLUS: u8 = 43;
+
+// A number in two bytes.
+pub(crate) fn short(n: u32) -> u16
+    ensures { λ r. ⌜ r ≡ min n 65535 ⌝ }
+{
+    if n <= 65535 { n as u16 } else { NONE }
+}
 
 // A number with one digit more.
 fn longer(n: u16, b: u8) -> u16
@@ -29,12 +39,11 @@ fn longer(n: u16, b: u8) -> u16
     if 57 < b {
         return NONE;
     }
-    let n = (n as u32) * 10 + (b - 48) as u32;
-    if n <= 65535 { n as u16 } else { NONE }
+    short((n as u32) * 10 + (b - 48) as u32)
 }
 
 // The number that a word spells in decimal digits.
-fn number_of(word: &[u8]) -> u16
+pub(crate) fn number_of(word: &[u8]) -> u16
     ensures { λ r. ⌜ r ≡ numberOf (now (word .entry)) ⌝ }
 {
     if word.len() == 0 {
@@ -45,6 +54,47 @@ fn number_of(word: &[u8]) -> u16
         n = longer(n, word[i]);
     }
     n
+}
+
+// How many pluses a word has.
+pub(crate) fn pluses(word: &[u8]) -> usize
+    ensures { λ r. ⌜ r ≡ plusesIn (now (word .entry)) ⌝ }
+{
+    let mut n = 0;
+    for i in 0..word.len() {
+        if word[i] == PLUS {
+            n += 1;
+        }
+    }
+    n
+}
+
+// What stands ahead of a word's first plus.
+pub(crate) fn ahead(word: &[u8]) -> &[u8]
+    ensures { λ r. ⌜ now r ≡ aheadOf (now (word .entry)) ⌝ }
+{
+    for i in 0..word.len() {
+        if word[i] == PLUS {
+            return &word[..i];
+        }
+    }
+    word
+}
+
+// What stands behind k pluses; nothing, where there are fewer.
+pub(crate) fn behind(word: &[u8], k: u8) -> &[u8]
+    ensures { λ r. ⌜ now r ≡ behindOf (now (word .entry)) k ⌝ }
+{
+    let mut left = k;
+    for i in 0..word.len() {
+        if left == 0 {
+            return &word[i..];
+        }
+        if word[i] == PLUS {
+            left -= 1;
+        }
+    }
+    &word[..0]
 }
 
 fn number(i: usize) -> u16 {
@@ -86,7 +136,6 @@ pub(crate) fn read() -> Asked {
         band: number(4),
         area: letters4(5),
         columns: number(6),
-        lines: number(7),
         number: small_number(8),
         total: small_number(9),
         order: small_number(10),

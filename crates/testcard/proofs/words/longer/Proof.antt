@@ -1,5 +1,4 @@
 -- `longer`: the tests are the definition's.
-use native.Mathlib.Omega.{arith}
 use borrow.Author.Needs.{needs}
 use borrow.Author.Tests.{lt-ltb, le-ltb}
 use Rattle.testcard.proofs.words.longer.Statement.{statement}
@@ -11,12 +10,7 @@ returns-2 c = simp (le-ltb _ _ (c .before .if1 .left), lt-ltb _ _ (c .if2 .taken
 returns-3 : tie.Need-returns-3
 returns-3 c =
     let t = c .before in
-    simp (le-ltb _ _ (t .before .if1 .left), le-ltb _ _ (t .if2 .left)) (omega arith)
-
-returns-4 : tie.Need-returns-4
-returns-4 c =
-    let t = c .before in
-    simp (le-ltb _ _ (t .before .if1 .left), le-ltb _ _ (t .if2 .left)) (omega arith)
+    simp (le-ltb _ _ (t .before .if1 .left), le-ltb _ _ (t .if2 .left)) (c .short .ensures)
 
 pub longer-spec : {M : Type 1} → statement M
 longer-spec =
@@ -27,6 +21,5 @@ longer-spec =
     (λ c. search needs)
     (λ c. search needs)
     (λ c. search needs)
-    (λ c. search needs)
-    returns-3
-    returns-4)
+    (λ c κs. search needs)
+    returns-3)
