@@ -1,4 +1,4 @@
--- How a word cuts a frame's lines into segments: one number is the lines of each, and numbers joined by pluses are the lines of one each.
+-- How a word cuts a frame's lines into segments: one number for all of them, or a number for each, joined by pluses.
 use Prim.Native.Nat.{ℕ, zero, suc, _+_, _-_, min}
 use mathlib.Core.Bool.{Bool, _&&_, _||_, cond}
 use mathlib.Core.List.{List}

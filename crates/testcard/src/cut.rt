@@ -1,5 +1,5 @@
-// How the frame is cut into segments, by the word for the lines: one number is for all segments, and numbers joined by pluses are for one each.
-// A word that is none becomes lines that the writer refuses.
+// How the frame is cut into segments, by the word for the lines: one number for all of them, or a number for each, joined by pluses. A word
+// that is none becomes lines that the writer refuses.
 use crate::words::NONE;
 use crate::words::ahead;
 use crate::words::behind;
@@ -17,7 +17,7 @@ pub struct Cut {
     pub all: u32,
 }
 
-// The word of the segment that has k before it.
+// The word of the segment that has k before it; one number is every segment's.
 fn part_of(word: &[u8], k: u8) -> &[u8]
     ensures { λ r. ⌜ now r ≡ partOf (now (word .entry)) k ⌝ }
 {
@@ -65,6 +65,7 @@ fn is_good(word: &[u8], total: u8) -> bool
     (n == 0) | (as_many & (lines_to(word, total) <= 22000))
 }
 
+// The lines of a segment, and the first of them.
 fn lines_of(word: &[u8], number: u8, total: u8) -> u16
     ensures { λ r. ⌜ r ≡ linesOf (now (word .entry)) number total ⌝ }
 {

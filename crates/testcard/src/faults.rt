@@ -11,7 +11,7 @@ fn line(what: &[u8]) {
 
 pub(crate) fn usage() {
     line(
-        b"arguments: satellite date timeline band area columns lines number total byte-order, the lines as one number or as each segment's, joined by +",
+        b"arguments: satellite date timeline band area columns lines number total byte-order; lines are one number for all segments, or their heights joined by +",
     );
 }
 
@@ -27,7 +27,7 @@ fn refusal(t: Refusal) {
         ),
         33 => line(b"the timeline must be hhmm, by tens of minutes"),
         34 => line(
-            b"columns and lines must be 1 to 22000; lines joined by + as many as the total, and 22000 at most in all",
+            b"columns and lines must be 1 to 22000, and heights joined by + as many as the total, 22000 together at most",
         ),
         36 => line(b"the band must be 1 to 16"),
         _ => line(

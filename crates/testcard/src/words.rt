@@ -1,7 +1,6 @@
 // The program's arguments, each as the value that it must be. A word that is none becomes a value that the writer refuses.
 ghost use mathlib.Core.Path.{_≡_};
-ghost use Prim.Native.Nat.{_≤_, min};
-ghost use lib.ListN.{length};
+ghost use Prim.Native.Nat.{min};
 ghost use Rattle.testcard.specs.Words.{longerBy, numberOf, plusesIn, aheadOf, behindOf};
 
 // What was asked for, but for the lines.
