@@ -4,6 +4,7 @@
 
 #include <stdio.h>
 #include <stdlib.h>
+#include <string.h>
 #include <time.h>
 
 #include "hsd.h"
@@ -50,6 +51,16 @@ static inline void begin(Bench *b, int count, char **names)
     b->frame = malloc(2 * b->size);
     if (!b->frame || hsd_open(b->slate, b->marks, HSD_MARKS, b->frame, b->size).refusal)
         fail("no frame");
+}
+
+/* All of them to a record with no segment in. */
+static inline void offer_all(void *with)
+{
+    Bench *b = with;
+    memset(b->marks, 0, HSD_MARKS);
+    for (int i = 0; i < FILES; i++)
+        if (hsd_offer(b->slate, b->marks, HSD_MARKS, b->frame, b->size, b->files[i], b->lengths[i]).refusal)
+            fail("a segment was refused");
 }
 
 static inline double now(void)

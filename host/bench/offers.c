@@ -3,15 +3,6 @@
 
 #include "bench.h"
 
-static void offer_all(void *with)
-{
-    Bench *b = with;
-    memset(b->marks, 0, HSD_MARKS);
-    for (int i = 0; i < FILES; i++)
-        if (hsd_offer(b->slate, b->marks, HSD_MARKS, b->frame, b->size, b->files[i], b->lengths[i]).refusal)
-            fail("a segment was refused");
-}
-
 static void copy_all(void *with)
 {
     const Bench *b = with;
