@@ -89,7 +89,7 @@ enum {
     HSD_WHY_FIRST_LINE = 9
 };
 
-/* How many marks a record has, whatever the slate. */
+/* How many marks a record has, and how many heights a slate has room for, whatever its total. */
 enum { HSD_MARKS = 99 };
 
 /* An area from its four letters, as HSD_AREA('F', 'L', 'D', 'K'). */
@@ -171,16 +171,21 @@ uint32_t hsd_day(uint16_t year, uint8_t month, uint8_t day);
 /* The valid bits of a band's counts, or 0 if it is not a band of 1 to 16. */
 uint16_t hsd_valid_bits(uint16_t band);
 
-/* What a frame is to show. Good when each part is in the range below, and total x lines is at most 22,000. */
+/* What a frame is to show. Good when each part is in the range below, and the heights of segments 1 to total add up to at most
+ * 22,000, the frame's lines. What stands beyond the total'th height is ignored, and may be anything. Segment k begins one
+ * line after segments 1 to k - 1 end. Even segments are simply heights that agree:
+ *
+ *   for (int k = 0; k < slate.total; k++)
+ *       slate.heights[k] = 550; */
 typedef struct HsdSlate {
-    uint8_t satellite; /* 8 or 9 */
-    uint8_t total;     /* segments, 1 to 99 */
-    uint16_t timeline; /* hhmm as a number, by tens of minutes */
-    uint16_t band;     /* 1 to 16 */
-    uint16_t columns;  /* 1 to 22,000 */
-    uint16_t lines;    /* of each segment, at least 1 */
-    uint32_t day;      /* Modified Julian Day, 51,544 to 88,068 */
-    uint32_t area;     /* four letters, the first one highest */
+    uint8_t satellite;           /* 8 or 9 */
+    uint8_t total;               /* segments, 1 to 99 */
+    uint16_t timeline;           /* hhmm as a number, by tens of minutes */
+    uint16_t band;               /* 1 to 16 */
+    uint16_t columns;            /* 1 to 22,000 */
+    uint16_t heights[HSD_MARKS]; /* heights[k - 1] is how many lines segment k has, at least 1 */
+    uint32_t day;                /* Modified Julian Day, 51,544 to 88,068 */
+    uint32_t area;               /* four letters, the first one highest */
 } HsdSlate;
 
 typedef struct HsdAnswer {
@@ -190,8 +195,8 @@ typedef struct HsdAnswer {
 } HsdAnswer;
 
 /* A record of what is in is HSD_MARKS bytes, each 0 or 1: marks[k - 1] is 1 when segment k is in. Another length or another
- * byte is HSD_SLATE, and so is a mark beyond the slate's total. A frame is total x lines x columns counts, line by line;
- * frame_length counts counts, not bytes. */
+ * byte is HSD_SLATE, and so is a mark beyond the slate's total. A frame is as many lines of counts as the heights add up to,
+ * one after the other, each of them columns counts; frame_length counts counts, not bytes. */
 
 /* Starts a frame: HSD_SLATE, HSD_STRIP, or fine. When fine, every mark is 0 and every count of the frame is 65,534: that is
  * also a lawful count, so the marks alone say what is in. It makes the record and reads none: whatever the HSD_MARKS bytes
@@ -204,10 +209,10 @@ HsdAnswer hsd_open(HsdSlate slate, uint8_t *marks, size_t marks_length, uint16_t
 HsdAnswer hsd_offer(HsdSlate slate, uint8_t *marks, size_t marks_length, uint16_t *frame, size_t frame_length,
                     const uint8_t *file, size_t file_length);
 
-/* Copies a line of the frame, counted from 1, to the front of out: from the frame if the line's segment is in, or else from
- * the leader, its first counts. Answers how many counts these are: the slate's columns. Answers 0, with out as it was, for
- * a bad slate or record, a frame of another size, a line outside 1 to total x lines, a missing segment with a leader shorter
- * than a line, or an out shorter than a line. */
+/* Copies a line of the frame, counted from 1, to the front of out: from the frame if the segment that covers the line is in,
+ * or else from the leader, its first counts. Answers how many counts these are: the slate's columns. Answers 0, with out as
+ * it was, for a bad slate or record, a frame of another size, a line outside 1 to the sum of the heights, a missing segment
+ * with a leader shorter than a line, or an out shorter than a line. */
 size_t hsd_line(HsdSlate slate, const uint8_t *marks, size_t marks_length, const uint16_t *frame, size_t frame_length,
                 const uint16_t *leader, size_t leader_length, uint16_t line, uint16_t *out, size_t out_length);
 
@@ -216,8 +221,9 @@ typedef struct HsdWhy {
     uint8_t block;   /* of a file's refusal; else 0 */
     uint8_t part;    /* HSD_WHY_AGREES, or the first part in which the two differ: all those before it agree */
     uint32_t offset; /* of a file's refusal, as in HsdFile; else 0 */
-    uint64_t slate;  /* what the slate says of that part, as in HsdSlate: of the lines, those of each segment; of the first line,
-                        where the segment of the file's number begins, 1 + (number - 1) x lines; 0 for HSD_WHY_AGREES */
+    uint64_t slate;  /* what the slate says of that part, as in HsdSlate: of the lines, the height of the segment of the file's
+                        number; of the first line, where that segment begins, 1 + the heights of all before it; 0 for
+                        HSD_WHY_AGREES */
     uint64_t file;   /* what the file says of it, as in HsdFile; 0 for HSD_WHY_AGREES */
 } HsdWhy;
 

@@ -88,6 +88,9 @@ bool write_picture(const char *name, Picture picture, bool progress);
 /* Reads a slate, and complains of one that is not good. */
 bool read_slate(const char *text, HsdSlate *slate);
 
+/* How many lines the frame of a good slate has. */
+unsigned frame_lines(const HsdSlate *slate);
+
 /* The date of a day of 2000 to 2099 as a slate has it: 20150707. */
 unsigned date_of(uint32_t day);
 

@@ -37,7 +37,7 @@ static bool parse_wish(int count, char **words, Wish *wish)
 /* Of a good slate. */
 static bool open_frame(Frame *frame)
 {
-    frame->length = (size_t)frame->slate.total * frame->slate.lines * frame->slate.columns;
+    frame->length = (size_t)frame_lines(&frame->slate) * frame->slate.columns;
     frame->counts = malloc(2 * frame->length);
     if (!frame->counts) {
         complain("the frame", strerror(errno));

@@ -72,9 +72,10 @@ static const char night_help[] =
     "Exit status: 0 all are accepted; 1 some file was refused; 2 wrong usage, or some file cannot be read or\n"
     "changed meanwhile; 3 standard output cannot be written.\n";
 
-#define SLATE_OPTION                                                                                                   \
+#define SLATE_OPTION                                                                                                    \
     "  --slate SLATE      satellite, date, timeline, band, area, columns, segments, lines per segment, as\n"            \
-    "                     H08,20150707,0200,13,FLDK,5500,10,550\n"
+    "                     H08,20150707,0200,13,FLDK,5500,10,550; where segments differ, the lines of each, joined\n"    \
+    "                     by plus signs, as H08,20150707,0200,13,FLDK,5500,4,900+1850+1850+900\n"
 
 static const char frame_help[] =
     "panulimbe frame --slate SLATE -o PICTURE [--leader COUNT] [--progress] FILE..\n"
@@ -103,8 +104,8 @@ static const char why_help[] =
     "  NAME: day: slate 57210 (20150707), file 57211 (20150708)\n"
     "  NAME: refused 33 timeline, block 1, byte 44\n"
     "The parts, in this order: satellite, day, timeline, band, area, columns, segment total, lines, first line.\n"
-    "Those before the one that is named agree. On the slate's side the first line is where the segment of the\n"
-    "file's number begins. A file that cannot be read, or changed while it was read, has no line; standard error\n"
+    "Those before the one that is named agree. On the slate's side lines and first line are those of the segment\n"
+    "of the file's number. A file that cannot be read, or changed while it was read, has no line; standard error\n"
     "says which and why.\n"
     SLATE_OPTION
     "\n"

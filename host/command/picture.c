@@ -19,7 +19,7 @@ static bool write_lines(FILE *to, const void *what, bool progress)
     const Frame *frame = picture->frame;
     HsdSlate slate = frame->slate;
     size_t columns = slate.columns;
-    unsigned height = (unsigned)slate.total * slate.lines;
+    unsigned height = frame_lines(&slate);
     uint16_t greatest = (uint16_t)((1U << hsd_valid_bits(slate.band)) - 1);
     fprintf(to, "P5\n%zu %u\n%u\n", columns, height, greatest);
     for (unsigned line = 1; line <= height; line++) {

@@ -1,4 +1,5 @@
-/* The slate in one word, as H08,20150707,0200,13,FLDK,5500,10,550. What it may hold is the library's to say. */
+/* The slate in one word, as H08,20150707,0200,13,FLDK,5500,10,550 or, in uneven segments, H08,20150707,0200,13,FLDK,5500,4,900+1850+1850+900. What it may
+   hold is the library's to say. */
 #include <string.h>
 
 #include "command.h"
@@ -9,7 +10,7 @@ typedef struct Rest {
     bool good;
 } Rest;
 
-/* A number of so many digits, then a comma or the end. */
+/* A number of so many digits, then a comma, a plus sign or the end. */
 static unsigned number(Rest *rest, size_t least, size_t most, unsigned greatest)
 {
     unsigned value = 0;
@@ -25,6 +26,31 @@ static void comma(Rest *rest)
 {
     rest->good = rest->good && *rest->at == ',';
     rest->at += *rest->at != '\0';
+}
+
+/* Whether a plus sign stands here, which is then passed. */
+static bool plus(Rest *rest)
+{
+    bool stands = *rest->at == '+';
+    rest->at += stands;
+    return stands;
+}
+
+/* From a segment on: so a height that no other follows is that of them all. */
+static void put_height(HsdSlate *slate, unsigned from, uint16_t height)
+{
+    for (unsigned k = from; k < HSD_MARKS; k++)
+        slate->heights[k] = height;
+}
+
+/* One for all segments, or one for each. A slate with more of them than there is room for is refused by its total. */
+static void heights(Rest *rest, HsdSlate *slate)
+{
+    unsigned count = 0;
+    do
+        put_height(slate, count++, (uint16_t)number(rest, 1, 5, 65535));
+    while (plus(rest));
+    rest->good = rest->good && (count == 1 || count == slate->total);
 }
 
 static uint32_t letters(Rest *rest)
@@ -62,7 +88,7 @@ static bool parse_slate(const char *text, HsdSlate *slate)
     comma(&rest);
     slate->total = (uint8_t)number(&rest, 1, 3, 255);
     comma(&rest);
-    slate->lines = (uint16_t)number(&rest, 1, 5, 65535);
+    heights(&rest, slate);
     return rest.good && *rest.at == '\0';
 }
 
@@ -86,6 +112,14 @@ bool read_slate(const char *text, HsdSlate *slate)
     if (fault)
         complain(text, fault);
     return !fault;
+}
+
+unsigned frame_lines(const HsdSlate *slate)
+{
+    unsigned lines = 0;
+    for (unsigned k = 0; k < slate->total; k++)
+        lines += slate->heights[k];
+    return lines;
 }
 
 static bool is_reached(unsigned date, uint32_t day)
