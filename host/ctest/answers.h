@@ -29,7 +29,13 @@ static inline bool is_night(HsdNight answer, uint8_t refusal, uint8_t block, uin
            is_same_run(&answer.run, run);
 }
 
-/* In every member; there is padding between them. */
+/* In every member, heights beyond the last one too; there is padding between them. */
+static inline bool is_same_slate(const HsdSlate *one, const HsdSlate *other)
+{
+    return memcmp(one, other, offsetof(HsdSlate, heights) + sizeof one->heights) == 0 && one->day == other->day &&
+           one->area == other->area;
+}
+
 static inline bool is_same_why(HsdWhy one, HsdWhy other)
 {
     return one.refusal == other.refusal && one.block == other.block && one.part == other.part && one.offset == other.offset &&

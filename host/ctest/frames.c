@@ -6,8 +6,8 @@
 enum { COLUMNS = 64, LINES = 3, TOTAL = 4, LINE_COUNT = LINES * TOTAL, SIZE = LINE_COUNT * COLUMNS };
 
 static const HsdSlate slate = {
-    .satellite = 8, .total = TOTAL, .timeline = 200, .band = 13, .columns = COLUMNS, .lines = LINES, .day = 57210,
-    .area = HSD_AREA('F', 'L', 'D', 'K')};
+    .satellite = 8, .total = TOTAL, .timeline = 200, .band = 13, .columns = COLUMNS, .heights = {LINES, LINES, LINES, LINES},
+    .day = 57210, .area = HSD_AREA('F', 'L', 'D', 'K')};
 
 /* Everything that a call may write to. */
 typedef struct State {
@@ -50,8 +50,8 @@ static void check_slates(void)
     bad[4].band = 17;
     bad[5].columns = 0;
     bad[6].columns = 22001;
-    bad[7].lines = 0;
-    bad[8].lines = 5501;
+    bad[7].heights[0] = 0;
+    bad[8].heights[3] = 22001 - 3 * LINES;
     bad[9].day = 51543;
     bad[10].area = HSD_AREA('F', 'L', 'D', 'X');
     for (size_t i = 0; i < sizeof bad / sizeof *bad; i++) {

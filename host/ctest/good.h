@@ -88,6 +88,20 @@ static inline void put_block(File *file, unsigned block)
         put_value(file, entries_of(block, file->plan.entries[block - 8]));
 }
 
+/* Two bytes at a place of the file, in its byte order. */
+static inline void put_two(File *file, size_t at, unsigned number)
+{
+    file->bytes[at + file->plan.order] = (uint8_t)number;
+    file->bytes[at + !file->plan.order] = (uint8_t)(number >> 8);
+}
+
+static inline void put_counts(File *file, const uint16_t *counts, size_t length)
+{
+    const size_t at = start(&file->plan, COUNTS);
+    for (size_t i = 0; i < length; i++)
+        put_two(file, at + 2 * i, counts[i]);
+}
+
 /* Columns and lines, and with them the file's length. */
 static inline void put_size(File *file, uint32_t columns, uint32_t lines)
 {
@@ -95,6 +109,17 @@ static inline void put_size(File *file, uint32_t columns, uint32_t lines)
     put_value(file, (Value){2, 2, 7, lines, NULL});
     put_value(file, (Value){1, 4, 74, 2 * columns * lines, NULL});
     file->length = start(&file->plan, COUNTS) + 2 * (size_t)columns * lines;
+}
+
+/* Which segment it is and where it begins: in block 7, and its number and the total in the name. */
+static inline void put_segment(File *file, unsigned number, unsigned total, unsigned first_line)
+{
+    const char digits[] = {(char)('0' + number / 10), (char)('0' + number % 10), (char)('0' + total / 10),
+                           (char)('0' + total % 10)};
+    put_value(file, (Value){7, 1, 3, total, NULL});
+    put_value(file, (Value){7, 1, 4, number, NULL});
+    put_value(file, (Value){7, 2, 5, first_line, NULL});
+    put_value(file, (Value){1, sizeof digits, 149, 0, digits});
 }
 
 /* Segment 1 of 2 of the full disk in band 13 on 2015-07-07 at 02:00. */

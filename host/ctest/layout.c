@@ -55,10 +55,11 @@ AT(HsdSlate, total, 1, 1);
 AT(HsdSlate, timeline, 2, 2);
 AT(HsdSlate, band, 4, 2);
 AT(HsdSlate, columns, 6, 2);
-AT(HsdSlate, lines, 8, 2);
-AT(HsdSlate, day, 12, 4);
-AT(HsdSlate, area, 16, 4);
-WHOLE(HsdSlate, 20, 4);
+AT(HsdSlate, heights, 8, 198);
+AT(HsdSlate, heights[98], 204, 2);
+AT(HsdSlate, day, 208, 4);
+AT(HsdSlate, area, 212, 4);
+WHOLE(HsdSlate, 216, 4);
 
 AT(HsdAnswer, refusal, 0, 1);
 AT(HsdAnswer, block, 1, 1);

@@ -54,23 +54,9 @@ static void put_band(size_t band)
     put_value(&file, (Value){1, 3, 144, 0, bands[band].resolution});
 }
 
-/* Two bytes at a place of the file, in its byte order. */
-static void put_two(size_t at, unsigned number)
-{
-    file.bytes[at + file.plan.order] = (uint8_t)number;
-    file.bytes[at + !file.plan.order] = (uint8_t)(number >> 8);
-}
-
 static uint16_t two_at(size_t at)
 {
     return (uint16_t)(file.bytes[at + file.plan.order] | file.bytes[at + !file.plan.order] << 8);
-}
-
-static void put_counts(const uint16_t *counts, size_t length)
-{
-    const size_t at = start(&file.plan, COUNTS);
-    for (size_t i = 0; i < length; i++)
-        put_two(at + 2 * i, counts[i]);
 }
 
 /* Where block 10 has the error pixels of its first entry; those of the others follow, 4 bytes apart. */
@@ -84,7 +70,7 @@ static void make_file(Plan plan)
 {
     make_good(&file, plan);
     put_calibration(0.5, -1);
-    put_counts(edges, EDGES);
+    put_counts(&file, edges, EDGES);
 }
 
 static void make_plain(uint8_t order)
@@ -223,7 +209,7 @@ static void check_limits(void)
     for (size_t i = 0; i < 2 * BANDS; i++) {
         make_plain(i % 2);
         put_band(i / 2);
-        put_counts(limits, EDGES);
+        put_counts(&file, limits, EDGES);
         CHECK(gives(of(2 * (i / 2) + 1, 1, 1, 5 - 2 * (i / 2), 0), 1));
         put_calibration((double)NAN, 0);
         CHECK(gives(of(0, 1, 1, 5 - 2 * (i / 2), 2 * (i / 2) + 1), 1));
@@ -239,7 +225,7 @@ static void check_every_count(void)
         put_band(i / 2);
         put_size(&file, 256, 256);
         for (size_t count = 0; count < 65536; count++)
-            put_two(start(&file.plan, COUNTS) + 2 * count, (unsigned)count);
+            put_two(&file, start(&file.plan, COUNTS) + 2 * count, (unsigned)count);
         CHECK(gives(of(limit, 1, 1, over, 0), 1));
         put_calibration((double)NAN, 0);
         CHECK(gives(of(0, 1, 1, over, limit), 1));
@@ -259,7 +245,7 @@ static void check_alike(void)
         if (i / 2 == HSD_UNCALIBRATED)
             put_calibration((double)NAN, 0);
         for (size_t place = 0; place < 65536; place++)
-            put_two(start(&file.plan, COUNTS) + 2 * place, counts[i / 2]);
+            put_two(&file, start(&file.plan, COUNTS) + 2 * place, counts[i / 2]);
         *total_of(&totals, i / 2) = 65536;
         CHECK(gives(totals, i / 2 == HSD_ERROR_PIXEL ? 65536 : 0));
     }
@@ -277,7 +263,7 @@ static void check_sizes(void)
         put_size(&file, sizes[i / 2][0], sizes[i / 2][1]);
         put_calibration(i % 5 ? 0.5 : 0x1p1014, -1);
         for (size_t at = start(&file.plan, COUNTS); at < file.length; at += 2)
-            put_two(at, any_below(8) ? any_below(1U << any_below(17)) : 65534 + any_below(2));
+            put_two(&file, at, any_below(8) ? any_below(1U << any_below(17)) : 65534 + any_below(2));
         CHECK(is_judged((HsdRun){0}));
     }
 }
@@ -288,7 +274,7 @@ static void check_listed(Plan plan, uint16_t pixels, int64_t extra)
     make_file(plan);
     CHECK(is_judged((HsdRun){0}));
     for (size_t i = 0; i < plan.entries[2]; i++)
-        put_two(pixels_start() + 4 * i, pixels);
+        put_two(&file, pixels_start() + 4 * i, pixels);
     CHECK(gives(of(4, 1, 1, 2, 0), extra));
 }
 
@@ -306,7 +292,7 @@ static void check_extras(void)
         check_listed((Plan){order, {0, 0, 65535}}, 65535, -4294836224);
         check_listed((Plan){order, {6547, 6549, 65535}}, 65535, -4294836224);
         /* without the one error pixel: the least extra that there is */
-        put_two(start(&file.plan, COUNTS) + 2 * (EDGES - 1), 0);
+        put_two(&file, start(&file.plan, COUNTS) + 2 * (EDGES - 1), 0);
         CHECK(gives(of(5, 0, 1, 2, 0), -4294836225));
     }
 }

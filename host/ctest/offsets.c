@@ -109,8 +109,8 @@ static const struct {
     {{HSD_SEGMENT_FIELD, 7, 1007}, {{7, 1, 3, 0, NULL}, {7, 1, 4, 0, NULL}}},
 };
 
-static const HsdSlate slate = {.satellite = 8, .total = TOTAL, .timeline = 200, .band = 13, .columns = COLUMNS, .lines = LINES,
-                               .day = 57210, .area = HSD_AREA('F', 'L', 'D', 'K')};
+static const HsdSlate slate = {.satellite = 8, .total = TOTAL, .timeline = 200, .band = 13, .columns = COLUMNS,
+                               .heights = {LINES, LINES}, .day = 57210, .area = HSD_AREA('F', 'L', 'D', 'K')};
 static HsdSlate other_shot, bad_slate;
 static File good, file, neighbour; /* `file` is `good` with its faults */
 static Fault faults[MOST_FAULTS];

@@ -89,25 +89,33 @@ static unsigned date_of(uint32_t day)
     return 10000 * year + 100 * (month + 1) + left + 1;
 }
 
+/* Even segments, and the same beyond the last one. */
+static void put_heights(HsdSlate *slate, uint32_t height)
+{
+    for (size_t k = 0; k < HSD_MARKS; k++)
+        slate->heights[k] = (uint16_t)height;
+}
+
 static HsdSlate slate_of(const Shot *shot)
 {
-    return (HsdSlate){.satellite = (uint8_t)value_of(shot, SATELLITE),
+    HsdSlate slate = {.satellite = (uint8_t)value_of(shot, SATELLITE),
                       .total = (uint8_t)value_of(shot, SEGMENTS),
                       .timeline = (uint16_t)value_of(shot, TIMELINE),
                       .band = (uint16_t)value_of(shot, BAND),
                       .columns = (uint16_t)value_of(shot, WIDTH),
-                      .lines = (uint16_t)value_of(shot, HEIGHT),
                       .day = value_of(shot, DAY),
                       .area = value_of(shot, AREA)};
+    put_heights(&slate, value_of(shot, HEIGHT));
+    return slate;
 }
 
+/* The name, but for the numbers of the segment. */
 static void put_name(const Shot *says)
 {
     char name[128] = {0};
     const uint32_t band = says->is[BAND];
-    snprintf(name, sizeof name, "HS_H%02u_%08u_%04u_B%02u_%s_R%s_S%02u%02u.DAT", says->is[SATELLITE], date_of(says->is[DAY]),
-             value_of(says, TIMELINE), band, letters_of(says->is[AREA]), band == 3 ? "05" : band <= 4 ? "10" : "20",
-             says->number, says->is[SEGMENTS]);
+    snprintf(name, sizeof name, "HS_H%02u_%08u_%04u_B%02u_%s_R%s_S0102.DAT", says->is[SATELLITE], date_of(says->is[DAY]),
+             value_of(says, TIMELINE), band, letters_of(says->is[AREA]), band == 3 ? "05" : band <= 4 ? "10" : "20");
     put_value(&file, (Value){1, 128, 114, 0, name});
 }
 
@@ -121,10 +129,8 @@ static void put_shot(const Shot *says)
     put_value(&file, (Value){1, 2, 44, value_of(says, TIMELINE), NULL});
     put_value(&file, (Value){5, 2, 3, band, NULL});
     put_value(&file, (Value){5, 2, 13, band == 7 ? 14 : band >= 10 && band <= 15 ? 12 : 11, NULL});
-    put_value(&file, (Value){7, 1, 3, says->is[SEGMENTS], NULL});
-    put_value(&file, (Value){7, 1, 4, says->number, NULL});
-    put_value(&file, (Value){7, 2, 5, says->is[FIRST], NULL});
     put_name(says);
+    put_segment(&file, says->number, says->is[SEGMENTS], says->is[FIRST]);
 }
 
 /* The judge: the first part in which the two differ, the slate's first line being that of the file's number. */
@@ -142,7 +148,7 @@ static bool answers(HsdSlate slate, HsdWhy wanted)
 {
     const HsdSlate before = slate;
     const uint8_t *lent = lend(file.bytes, file.length);
-    return is_same_why(hsd_why(slate, lent, file.length), wanted) && memcmp(&slate, &before, sizeof slate) == 0 &&
+    return is_same_why(hsd_why(slate, lent, file.length), wanted) && is_same_slate(&slate, &before) &&
            memcmp(lent, file.bytes, file.length) == 0;
 }
 
@@ -163,7 +169,7 @@ static uint8_t offered(HsdSlate slate, unsigned from, unsigned to, size_t marks_
 /* OTHER SHOT is answered exactly where they differ, the record and the frame being right, and never where they agree. */
 static void check_offers(HsdSlate slate, unsigned number, bool agrees)
 {
-    const size_t size = (size_t)slate.total * slate.lines * slate.columns;
+    const size_t size = (size_t)slate.total * slate.heights[0] * slate.columns;
     CHECK(offered(slate, 1, 0, HSD_MARKS, size) == (agrees ? HSD_FINE : HSD_OTHER_SHOT));
     CHECK(offered(slate, 1, slate.total, HSD_MARKS, size) == (agrees ? HSD_ALREADY : HSD_OTHER_SHOT));
     if (number > 1 && number <= slate.total) {
@@ -329,7 +335,7 @@ static HsdSlate slate_but(unsigned part, uint32_t value)
     case AREA: slate.area = value; break;
     case WIDTH: slate.columns = (uint16_t)value; break;
     case SEGMENTS: slate.total = (uint8_t)value; break;
-    default: slate.lines = (uint16_t)value; break;
+    default: put_heights(&slate, value); break;
     }
     return slate;
 }
