@@ -287,7 +287,7 @@ static void check_other_totals(void)
     }
 }
 
-/* Every function refuses it, with good marks and a good file; and the frame is as long as its sum, or as that sum in 16 bits. */
+/* Every function refuses it, with good marks and a good file; the frame is as long as its sum, or as that sum in 16 bits. */
 static void check_bad(const HsdSlate *slate)
 {
     const HsdSlate good = cut_into(1, (const uint16_t[]){1}, slate->columns);
@@ -347,10 +347,10 @@ static void check_greatest(Sum sum)
 /* Sums at the limit; sums that 16 bits would have within it, and that are beyond them. */
 static void check_sums(void)
 {
-    static const Sum greatest[] = {{1, 0, 22000}, {2, 21999, 1}, {2, 1, 21999}, {3, 7333, 7334}, {99, 222, 244}, {99, 1, 21902}};
+    static const Sum greatest[] = {{1, 0, 22000}, {2, 1, 21999}, {3, 7333, 7334}, {99, 222, 244}};
     static const Sum beyond[] = {{1, 0, 22001},     {1, 0, 65535},     {2, 65535, 1},     {2, 65535, 2},     {2, 65535, 3},
                                  {2, 65535, 22001}, {2, 3, 65535},     {2, 32768, 32768}, {2, 32768, 32769}, {3, 65535, 3},
-                                 {3, 32767, 3},     {4, 16384, 16385}, {99, 662, 663},    {99, 1338, 10},    {99, 65535, 65535}};
+                                 {3, 32767, 3},     {4, 16384, 16385}, {99, 662, 663},    {99, 1338, 10},    {99, 65535, 9}};
     for (size_t i = 0; i < sizeof greatest / sizeof *greatest; i++)
         check_greatest(greatest[i]);
     memset(state.marks, 0, HSD_MARKS);
@@ -418,12 +418,12 @@ int main(void)
         check_cuts();
         check_other_cuts();
         check_other_totals();
-        for (unsigned total = 1; total <= HSD_MARKS; total += 7)
-            check_zeros(total);
-        check_sums();
         for (int i = 0; i < 30; i++)
             check_any();
     }
+    for (unsigned total = 1; total <= HSD_MARKS; total += 7)
+        check_zeros(total);
+    check_sums();
     check_kept();
     return checked("uneven");
 }
