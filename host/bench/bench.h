@@ -9,12 +9,13 @@
 
 #include "hsd.h"
 
-enum { FILES = 10, ROUNDS = 15 };
+enum { FILES = 10, COLUMNS = 5500, ROUNDS = 15 };
 
 typedef struct Bench {
     HsdSlate slate;
     uint8_t *files[FILES];
     size_t lengths[FILES];
+    size_t starts[FILES + 1]; /* of the segments in the frame, in counts, and its end */
     uint8_t marks[HSD_MARKS];
     uint16_t *frame;
     size_t size;
@@ -29,7 +30,7 @@ static inline void fail(const char *what)
 static inline uint8_t *load(const char *name, size_t *length)
 {
     FILE *from = fopen(name, "rb");
-    size_t room = 8000000;
+    size_t room = 12000000;
     uint8_t *bytes = malloc(room);
     if (!from || !bytes)
         fail(name);
@@ -38,16 +39,24 @@ static inline uint8_t *load(const char *name, size_t *length)
     return bytes;
 }
 
+/* A segment as high as its file is long: no header is as long as a line. */
+static inline void add_segment(Bench *b, int i, const char *name)
+{
+    b->files[i] = load(name, &b->lengths[i]);
+    b->slate.heights[i] = (uint16_t)(b->lengths[i] / (2 * COLUMNS));
+    b->starts[i + 1] = b->starts[i] + (size_t)b->slate.heights[i] * COLUMNS;
+}
+
 /* The segments of the disk that host/bench/run makes, and an opened frame for them. */
 static inline void begin(Bench *b, int count, char **names)
 {
     if (count != FILES)
         fail("give ten segments");
+    *b = (Bench){.slate = {.satellite = 8, .total = FILES, .timeline = 200, .band = 13, .columns = COLUMNS, .day = 57210,
+                           .area = HSD_AREA('F', 'L', 'D', 'K')}};
     for (int i = 0; i < FILES; i++)
-        b->files[i] = load(names[i], &b->lengths[i]);
-    b->slate = (HsdSlate){
-        .satellite = 8, .total = FILES, .timeline = 200, .band = 13, .columns = 5500, .lines = 550, .day = 57210, .area = 0x464c444b};
-    b->size = (size_t)5500 * 5500;
+        add_segment(b, i, names[i]);
+    b->size = b->starts[FILES];
     b->frame = malloc(2 * b->size);
     if (!b->frame || hsd_open(b->slate, b->marks, HSD_MARKS, b->frame, b->size).refusal)
         fail("no frame");

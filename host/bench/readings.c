@@ -11,9 +11,10 @@ static void read_proved(void *with)
 {
     const Bench *b = with;
     HsdFile f = hsd_accept(b->files[MIDDLE], b->lengths[MIDDLE]);
-    const uint16_t *counts = b->frame + MIDDLE * (b->size / FILES);
+    const uint16_t *counts = b->frame + b->starts[MIDDLE];
+    size_t length = b->starts[MIDDLE + 1] - b->starts[MIDDLE];
     double sum = 0;
-    for (size_t i = 0; i < b->size / FILES; i++)
+    for (size_t i = 0; i < length; i++)
         sum += hsd_reading(f, counts[i]).radiance;
     seen = sum;
 }
@@ -22,9 +23,10 @@ static void read_inlined(void *with)
 {
     const Bench *b = with;
     HsdFile f = hsd_accept(b->files[MIDDLE], b->lengths[MIDDLE]);
-    const uint16_t *counts = b->frame + MIDDLE * (b->size / FILES);
+    const uint16_t *counts = b->frame + b->starts[MIDDLE];
+    size_t length = b->starts[MIDDLE + 1] - b->starts[MIDDLE];
     double sum = 0;
-    for (size_t i = 0; i < b->size / FILES; i++) {
+    for (size_t i = 0; i < length; i++) {
         uint16_t count = counts[i];
         double radiance = f.gain * count + f.constant;
         if (count < 65534 && count < 1U << f.valid_bits && radiance - radiance == 0)
