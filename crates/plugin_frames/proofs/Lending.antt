@@ -1,18 +1,18 @@
 -- Laws of lent marks and lent lines.
 -- Assumes nothing.
 use mathlib.Core.Path.{_≡_, refl, sym, ap, _∙_}
-use mathlib.Core.Bool.{Bool, true, false, and-eq-true-iff}
+use mathlib.Core.Bool.{Bool, true, false, _&&_, and-eq-true-iff}
 use mathlib.Core.List.{List, [], _∷_, _++_, append-assoc, append-nil}
-use Prim.Native.Nat.{ℕ, zero, suc, _+_, _<_, _≤_}
+use Prim.Native.Nat.{ℕ, zero, suc, _+_, _-_, _<_, _≤_}
 use native.Mathlib.Numerals.{add-one}
 use native.Mathlib.Omega.{arith}
-use borrow.Author.Tests.{eqb-true, lt-leb, le-leb}
-use lib.Dec.{eqb}
+use borrow.Author.Tests.{eqb-true, le-leb}
+use lib.Dec.{eqb, leb}
 use lib.ListN.{length, getD, drop, set, length-append, drop-of-length-le}
 use lib.Seq.{set-at, drop-cons}
 use Rattle.wire.specs.Wire.{tab}
 use Rattle.wire.proofs.Rows.{tab-is}
-use Rattle.frame.specs.Records.{noMarks, noneAbove}
+use Rattle.frame.specs.Records.{pass, noMarks, noneAbove}
 use Rattle.frame.proofs.Marking.{pass-hit, pass-miss, pass-end}
 use Rattle.rules.specs.Rules.{Row, row, Turned, turned, fine, Ruling, refused, tables, judge, checked, after, refuses, reply}
 use Rattle.rules.proofs.Judge.{exactly, each-is, tried, table, last, judge-refused}
@@ -26,13 +26,13 @@ use Rattle.plugin_frames.specs.Strips.{slateIn, longMarks, isBit, bitsFr
 
 -- ---- the loop of `are_bits`
 
-pub bits-hit : (m : List ℕ) (k x : ℕ) → k < 99 → x ≡ getD m k 0 → 1 < x → bitsFrom m k ≡ false
+pub bits-more : (m : List ℕ) (k x : ℕ) → k < 99 → x ≡ getD m k 0 → bitsFrom m k ≡ (leb x 1 && bitsFrom m (k + 1))
 unfolding bitsFrom
-bits-hit m k x h e l = pass-hit isBit 0 m k h (rw (← e) (lt-leb x 1 l))
-
-pub bits-miss : (m : List ℕ) (k x : ℕ) → k < 99 → x ≡ getD m k 0 → x ≤ 1 → bitsFrom m k ≡ bitsFrom m (k + 1)
-unfolding bitsFrom
-bits-miss m k x h e l = pass-miss isBit 0 m k h (rw (← e) (le-leb x 1 l))
+bits-more m k x h e = rw e (go (leb (getD m k 0) 1) refl)
+  where
+    go : (b : Bool) → leb (getD m k 0) 1 ≡ b → pass isBit 0 m k (99 - k) ≡ (b && pass isBit 0 m (k + 1) (99 - (k + 1)))
+    go true q = pass-miss isBit 0 m k h q
+    go false q = pass-hit isBit 0 m k h q
 
 pub bits-end : (m : List ℕ) (k : ℕ) → 99 ≤ k → bitsFrom m k ≡ true
 unfolding bitsFrom

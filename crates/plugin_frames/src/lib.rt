@@ -31,23 +31,26 @@ pub struct HsdSlate {
     pub area: u32,
 }
 
+// All 99 are looked at, and not up to the first that is none: so many are looked at in one instruction.
 fn are_bits(marks: &[u8]) -> bool
     ensures { λ r. ⌜ r ≡ bitsFrom (now (marks .entry)) 0 ⌝ }
 {
+    let mut good = true;
     let mut k = 0;
     while k < 99 {
-        if wire::byte_at(marks, k) > 1 {
-            return false;
-        }
+        good = good & (wire::byte_at(marks, k) <= 1);
         k += 1;
     }
-    true
+    good
 }
 
 fn good_marks(marks: &[u8]) -> bool
     ensures { λ r. ⌜ r ≡ goodMarks (now (marks .entry)) ⌝ }
 {
-    (marks.len() == 99) & are_bits(marks)
+    if marks.len() != 99 {
+        return false;
+    }
+    are_bits(marks)
 }
 
 fn record_of(marks: &[u8]) -> Record

@@ -7,7 +7,7 @@ use native.Mathlib.Nat.{add-comm, eq-or-lt-of-le, le-of-suc-le-suc}
 use native.Mathlib.Omega.{arith}
 use borrow.Author.Tests.{leb-true, le-leb}
 use Rattle.slate.specs.declared.Slate.{Slate}
-use Rattle.slate.specs.Cut.{heightOf, linesTo, allTall}
+use Rattle.slate.specs.Cut.{heightIn, heightOf, linesTo, allTall}
 use Rattle.slate.specs.Slates.{frameSize}
 use Rattle.slate.proofs.Cuts.{lines-none, lines-more, lines-step, Covers, cover-one}
 use Rattle.tiling.proofs.Lawful.{both, and}
@@ -16,7 +16,7 @@ use Rattle.promises.specs.Heights.{height, linesOf, Covering}
 -- ---- the functions' words are these
 
 pub height-is : (s : Slate) (k : ℕ) → heightOf s k ≡ height s k
-unfolding heightOf
+unfolding heightOf heightIn
 height-is s k = refl
 
 pub lines-are : (s : Slate) (n : ℕ) → linesTo s n ≡ linesOf s n

@@ -1,13 +1,17 @@
--- How a slate's lines are cut into segments. Everything else speaks of the cut by these four names alone.
+-- How a slate's lines are cut into segments. Everything else speaks of the cut by these names alone.
 use Prim.Native.Nat.{ℕ, zero, suc, _+_, _-_}
 use mathlib.Core.Bool.{Bool, true, cond, _&&_}
+use mathlib.Core.List.{List}
 use lib.Dec.{leb, ltb}
 use lib.ListN.{getD}
 use Rattle.slate.specs.declared.Slate.{Slate}
 
 -- the lines of segment k; what is no number of 1 to 99 has none
+unfoldable pub heightIn : List ℕ → ℕ → ℕ
+heightIn heights k = cond (leb 1 k && leb k 99) (getD heights (k - 1) 0) 0
+
 unfoldable pub heightOf : Slate → ℕ → ℕ
-heightOf s k = cond (leb 1 k && leb k 99) (getD (s .heights) (k - 1) 0) 0
+heightOf s k = heightIn (s .heights) k
 
 -- the lines of segments 1 to n
 unfoldable pub linesTo : Slate → ℕ → ℕ

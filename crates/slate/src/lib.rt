@@ -8,7 +8,7 @@ ghost use mathlib.Core.Bool.{cond};
 ghost use Prim.Native.Nat.{_+_, _*_, _-_, _≤_};
 ghost use Rattle.wire.specs.Wire.{digits};
 ghost use Rattle.rules.specs.Rules.{paper, judge};
-ghost use Rattle.slate.specs.Cut.{heightOf, linesTo, allTall, goodCut};
+ghost use Rattle.slate.specs.Cut.{heightIn, heightOf, linesTo, allTall, goodCut};
 ghost use Rattle.slate.specs.Parts.{shotParts, cutParts, further, compareAll, comparing};
 ghost use Rattle.slate.specs.Slates.{goodSlate, slated, keptOf, partsOf, blank, SlatedAs, sizeOf, startOf, frameLines, frameSize, placeOf, hasLine, coverOr0, matching, paperReason, reasonOf};
 
@@ -20,14 +20,14 @@ pub struct Column(pub u16);
 // Made by `Slate::new` alone. The area is its four letters, the first one highest.
 pub struct Slate {
     satellite: u8,
-    day: u32,
-    timeline: u16,
-    band: u16,
-    area: u32,
-    columns: u16,
     // the segments, N
     total: u8,
-    // the lines of each of them; the room beyond the Nth is 0
+    timeline: u16,
+    band: u16,
+    columns: u16,
+    day: u32,
+    area: u32,
+    // the lines of each segment; the room beyond the Nth is 0
     heights: [u16; 99],
 }
 
@@ -168,7 +168,7 @@ impl Slate {
         let mut k = 0;
         while k < self.total {
             k += 1;
-            if self.height_of(k) < 1 {
+            if height_in(&self.heights, k) < 1 {
                 return false;
             }
         }
@@ -179,14 +179,7 @@ impl Slate {
     pub fn height_of(self, k: u8) -> u16
         ensures { λ r. ⌜ r ≡ heightOf self k ⌝ }
     {
-        if k < 1 {
-            return 0;
-        }
-        if k > 99 {
-            return 0;
-        }
-        let at = k as usize - 1;
-        self.heights[at]
+        height_in(&self.heights, k)
     }
 
     // The lines of segments 1 to n.
@@ -197,7 +190,7 @@ impl Slate {
         let mut k = 0;
         while k < n {
             k += 1;
-            sum += self.height_of(k) as u32;
+            sum += height_in(&self.heights, k) as u32;
         }
         sum
     }
@@ -261,7 +254,7 @@ impl Slate {
         let mut k = 1;
         let mut sum = 0;
         while k < self.total {
-            sum += self.height_of(k) as u32;
+            sum += height_in(&self.heights, k) as u32;
             if n <= sum {
                 return k;
             }
@@ -364,6 +357,20 @@ fn down(n: u16) -> u16
     if n < 1 { 0 } else { n - 1 }
 }
 
+// The lines of segment k. Lent, so that a loop over heights does not copy them at each turn.
+fn height_in(heights: &[u16; 99], k: u8) -> u16
+    ensures { λ r. ⌜ r ≡ heightIn (now (heights .entry)) k ⌝ }
+{
+    if k < 1 {
+        return 0;
+    }
+    if k > 99 {
+        return 0;
+    }
+    let at = k as usize - 1;
+    heights[at]
+}
+
 fn within(inside: bool, height: u16) -> u16
     ensures { λ r. ⌜ r ≡ cond inside height 0 ⌝ }
 {
@@ -375,9 +382,10 @@ fn kept(total: u8, heights: [u16; 99]) -> [u16; 99]
     ensures { λ r. ⌜ r ≡ keptOf total heights ⌝ }
 {
     let mut room = [0u16; 99];
-    let mut k = 0;
+    let mut k = 0u8;
     while k < 99 {
-        room[k] = within(k < total as usize, heights[k]);
+        let at = k as usize;
+        room[at] = within(k < total, heights[at]);
         k += 1;
     }
     room

@@ -1,7 +1,7 @@
 use mathlib.Core.Path.{_≡_, sym, ap, _∙_}
 use mathlib.Core.Bool.{true}
 use Prim.Native.Nat.{_-_, _≤_}
-use Rattle.slate.specs.Cut.{allTall}
+use Rattle.slate.specs.Cut.{heightOf, allTall}
 use Rattle.slate.proofs.Cuts.{tall-none, tall-next, tall-not}
 use native.Mathlib.Omega.{arith}
 use borrow.Author.Needs.{needs}
@@ -18,20 +18,22 @@ loop-holds : tie.Need-loop-holds Inv-loop μ-loop
 loop-holds c = (search needs, tall-none _)
 
 returns : tie.Need-returns Inv-loop μ-loop
+unfolding heightOf
 returns c =
-    let l = c .before .before .before .before in
-    let s = l .before .args .self in
-    sym (tall-not s (l .loop .k) (s .total) (search needs) (rw (← c .before .height-of .ensures) (c .if2 .taken)))
+    let l = c .before .before .before .before .before in
+    let s = l .before .args .t1 in
+    sym (tall-not s (l .loop .k) (s .total) (search needs) (rw (← c .before .height-in .ensures) (c .if1 .taken)))
 
 loop-again : tie.Need-loop-again Inv-loop μ-loop
+unfolding heightOf
 loop-again c =
-    let l = c .before .before .before .before in
-    (search needs, tall-next (l .before .args .self) (l .loop .k) (l .loop .inv .1) (rw (← c .before .height-of .ensures) (c .if2 .left)))
+    let l = c .before .before .before .before .before in
+    (search needs, tall-next (l .before .args .t1) (l .loop .k) (l .loop .inv .1) (rw (← c .before .height-in .ensures) (c .if1 .left)))
 
 returns-2 : tie.Need-returns-2 Inv-loop μ-loop
 returns-2 c =
-    let l = c .before .before in
-    let s = l .before .args .self in
+    let l = c .before in
+    let s = l .before .args .t1 in
     let e : l .loop .k ≡ s .total = omega arith in
     sym (rw e at (l .loop .inv .1))
 

@@ -1,4 +1,3 @@
-use borrow.Author.Tests.{lt-leb, le-leb}
 use Rattle.slate.specs.Cut.{heightOf}
 use borrow.Author.Needs.{needs}
 use Rattle.slate.proofs.Slate.height_of.Statement.{statement}
@@ -6,15 +5,7 @@ use Rattle.slate.proofs.Slate.height_of.Tie as tie
 
 returns : tie.Need-returns
 unfolding heightOf
-returns c = simp (lt-leb 1 _ (c .if1 .taken))
-
-returns-2 : tie.Need-returns-2
-unfolding heightOf
-returns-2 c = simp (le-leb 1 _ (c .before .if1 .left), lt-leb _ 99 (c .if2 .taken))
-
-returns-3 : tie.Need-returns-3
-unfolding heightOf
-returns-3 c = simp (le-leb 1 _ (c .before .before .if1 .left), le-leb _ 99 (c .before .if2 .left))
+returns c = c .height-in .ensures
 
 pub height-of-spec : {M : Type 1} → statement M
-height-of-spec = tie.close (tie.spec returns returns-2 (λ c. search needs) (λ c. search needs) (λ c. search needs) returns-3)
+height-of-spec = tie.close (tie.spec (λ c κs. search needs) returns)
