@@ -1,19 +1,20 @@
 -- Laws of lent marks and lent lines.
 -- Assumes nothing.
 use mathlib.Core.Path.{_≡_, refl, sym, ap, _∙_}
-use mathlib.Core.Bool.{Bool, true, false, _&&_, and-eq-true-iff}
+use mathlib.Core.Bool.{Bool, true, false, _&&_, false≢true, and-eq-true-iff}
 use mathlib.Core.List.{List, [], _∷_, _++_, append-assoc, append-nil}
 use Prim.Native.Nat.{ℕ, zero, suc, _+_, _-_, _<_, _≤_}
+use native.Mathlib.Nat.{le-trans}
 use native.Mathlib.Numerals.{add-one}
 use native.Mathlib.Omega.{arith}
-use borrow.Author.Tests.{eqb-true, le-leb}
-use lib.Dec.{eqb, leb}
-use lib.ListN.{length, getD, drop, set, length-append, drop-of-length-le}
+use borrow.Author.Tests.{eqb-true, le-leb, ltb-false}
+use lib.Dec.{eqb, leb, ltb}
+use lib.ListN.{length, getD, drop, set, length-append, drop-of-length-le, List·getD-eq-default}
 use lib.Seq.{set-at, drop-cons}
 use Rattle.wire.specs.Wire.{tab}
 use Rattle.wire.proofs.Rows.{tab-is}
 use Rattle.frame.specs.Records.{pass, noMarks, noneAbove}
-use Rattle.frame.proofs.Marking.{pass-hit, pass-miss, pass-end}
+use Rattle.frame.proofs.Marking.{pass-hit, pass-miss, pass-end, pass-all}
 use Rattle.rules.specs.Rules.{Row, row, Turned, turned, fine, Ruling, refused, tables, judge, checked, after, refuses, reply}
 use Rattle.rules.proofs.Judge.{exactly, each-is, tried, table, last, judge-refused}
 use Rattle.accept.specs.Checks.{checks}
@@ -34,9 +35,15 @@ bits-more m k x h e = rw e (go (leb (getD m k 0) 1) refl)
     go true q = pass-miss isBit 0 m k h q
     go false q = pass-hit isBit 0 m k h q
 
-pub bits-end : (m : List ℕ) (k : ℕ) → 99 ≤ k → bitsFrom m k ≡ true
+-- past the end there is nothing that could be no mark
+pub bits-end : (m : List ℕ) (k : ℕ) → (ltb k 99 && ltb k (length m)) ≡ false → bitsFrom m k ≡ true
 unfolding bitsFrom
-bits-end m k h = pass-end isBit 0 m k h
+bits-end m k e = go (ltb k 99) (ltb k (length m)) refl refl e
+  where
+    go : (a b : Bool) → ltb k 99 ≡ a → ltb k (length m) ≡ b → (a && b) ≡ false → pass isBit 0 m k (99 - k) ≡ true
+    go true true p q e = absurd (false≢true (sym e))
+    go true false p q e = pass-all isBit 0 m k (99 - k) (λ i a b. rw (List·getD-eq-default m 0 (le-trans (ltb-false k (length m) q) a)))
+    go false b p q e = pass-end isBit 0 m k (ltb-false k 99 p)
 
 -- ---- the loop of `record_of`
 

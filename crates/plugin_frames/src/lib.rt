@@ -37,8 +37,8 @@ fn are_bits(marks: &[u8]) -> bool
 {
     let mut good = true;
     let mut k = 0;
-    while k < 99 {
-        good = good & (wire::byte_at(marks, k) <= 1);
+    while (k < 99) & (k < marks.len()) {
+        good = good & (marks[k] <= 1);
         k += 1;
     }
     good
@@ -47,10 +47,7 @@ fn are_bits(marks: &[u8]) -> bool
 fn good_marks(marks: &[u8]) -> bool
     ensures { λ r. ⌜ r ≡ goodMarks (now (marks .entry)) ⌝ }
 {
-    if marks.len() != 99 {
-        return false;
-    }
-    are_bits(marks)
+    (marks.len() == 99) & are_bits(marks)
 }
 
 fn record_of(marks: &[u8]) -> Record

@@ -1,6 +1,8 @@
 use mathlib.Core.Path.{_≡_, refl, sym, ap, _∙_}
-use mathlib.Core.Bool.{Bool, _&&_, and-assoc, and-true}
-use Prim.Native.Nat.{_-_}
+use mathlib.Core.Bool.{Bool, true, _&&_, and-assoc, and-true, and-eq-true-iff}
+use Prim.Native.Nat.{ℕ, _-_, _<_}
+use lib.Dec.{ltb}
+use borrow.Author.Tests.{ltb-true}
 use Rattle.plugin_frames.specs.Strips.{bitsFrom}
 use Rattle.plugin_frames.proofs.Lending.{bits-more, bits-end}
 use borrow.Author.Needs.{needs}
@@ -16,10 +18,16 @@ abbrev μ-loop : tie.MeasureT-loop
 loop-holds : tie.Need-loop-holds Inv-loop μ-loop
 loop-holds c = refl
 
+inside : (k n : ℕ) → (ltb k 99 && ltb k n) ≡ true → (k < 99) × (k < n)
+inside k n e = let h = and-eq-true-iff (ltb k 99) (ltb k n) .0 e in (ltb-true k 99 (h .0), ltb-true k n (h .1))
+
+below : (c : tie.In-loop Inv-loop μ-loop) → c .before .loop .k < 99
+below c = inside _ _ (c .loop-test .taken) .0
+
 loop-again : tie.Need-loop-again Inv-loop μ-loop
 loop-again c =
     let l = c .before .before in
-    l .loop .inv ∙ ap (λ (b : Bool). l .loop .good && b) (bits-more _ (l .loop .k) _ (search needs) (c .byte-at .ensures)) ∙ sym (and-assoc (l .loop .good) _ _)
+    l .loop .inv ∙ ap (λ (b : Bool). l .loop .good && b) (bits-more _ (l .loop .k) _ (below (c .before)) refl) ∙ sym (and-assoc (l .loop .good) _ _)
 
 returns : tie.Need-returns Inv-loop μ-loop
 returns c =
@@ -33,8 +41,8 @@ are-bits-spec =
     Inv-loop
     μ-loop
     loop-holds
-    (λ c κs. search needs)
-    (λ c. search needs)
-    (λ c. search needs)
+    (λ c. inside _ _ (c .before .loop-test .taken) .1)
+    (λ c. search (needs, below (c .before)))
+    (λ c. search (needs, below (c .before)))
     loop-again
     returns)
