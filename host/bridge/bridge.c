@@ -43,7 +43,7 @@ typedef struct HsdQuality {
 
 typedef struct HsdSlate {
     u8 satellite, total;
-    u16 timeline, band, columns, lines;
+    u16 timeline, band, columns, heights[99];
     u32 day, area;
 } HsdSlate;
 
@@ -221,8 +221,7 @@ static void accepted(const u8 *file, u64 length, int timed)
    come frame and marks. */
 typedef struct History {
     HsdSlate slate;
-    u32 watched;
-    u64 files, frame, leader, steps, marks, out;
+    u64 watched, files, frame, leader, steps, marks, out;
 } History;
 
 typedef struct Step {

@@ -1,5 +1,5 @@
 //! Slate, record and frame: which files belong to a shot, where their counts go, and what a line of
-//! the frame shows. From document 01 alone.
+//! the frame shows. From documents 01 and 02 alone.
 
 use crate::accept::{accept, demand, is_area, is_timeline, Facts, Refusal};
 
@@ -26,8 +26,20 @@ pub struct Slate {
     pub columns: u16,
     /// Segments of the frame.
     pub total: u8,
-    /// Lines of each segment.
-    pub lines: u16,
+    /// Lines of each segment: the first one's come first. What stands beyond the total is ignored.
+    pub heights: [u16; MARKS],
+}
+
+/// Each segment has so many lines, whatever the total is.
+pub const fn even(lines: u16) -> [u16; MARKS] {
+    [lines; MARKS]
+}
+
+/// These heights, and the same one in all the room beyond them.
+pub fn uneven(heights: &[u16], beyond: u16) -> [u16; MARKS] {
+    let mut all = even(beyond);
+    all[..heights.len()].copy_from_slice(heights);
+    all
 }
 
 impl Slate {
@@ -39,12 +51,41 @@ impl Slate {
             && is_area(&self.area)
             && (1..=22_000).contains(&self.columns)
             && (1..=99).contains(&self.total)
-            && self.lines >= 1
+            && self.cut().iter().all(|&height| height >= 1)
             && self.frame_lines() <= 22_000
     }
 
+    /// The heights of segments 1 to the total, or as many as there is room for.
+    pub fn cut(&self) -> &[u16] {
+        &self.heights[..usize::from(self.total).min(MARKS)]
+    }
+
+    /// Whether all heights agree.
+    pub fn is_even(&self) -> bool {
+        self.cut().windows(2).all(|pair| pair[0] == pair[1])
+    }
+
     pub fn frame_lines(&self) -> usize {
-        usize::from(self.total) * usize::from(self.lines)
+        sum(self.cut())
+    }
+
+    /// How many lines the segment of this number has.
+    pub fn height(&self, number: usize) -> usize {
+        usize::from(self.heights[number - 1])
+    }
+
+    /// One line after the segments before it end.
+    pub fn first_line(&self, number: usize) -> usize {
+        sum(&self.heights[..number - 1]) + 1
+    }
+
+    /// The number of the segment that covers a line of the frame.
+    pub fn covering(&self, line: usize) -> Option<usize> {
+        (1..=usize::from(self.total)).find(|&number| {
+            let first = self.first_line(number);
+            let last = first + self.height(number) - 1;
+            first <= line && line <= last
+        })
     }
 
     /// How many counts a frame has.
@@ -54,7 +95,7 @@ impl Slate {
 
     /// Whether an accepted file is of this shot and lies where its number says.
     pub fn matches(&self, file: &Facts) -> bool {
-        let lines_before = (u32::from(file.number) - 1) * u32::from(self.lines);
+        let number = usize::from(file.number);
         file.satellite == self.satellite
             && file.day == self.day
             && file.timeline == self.timeline
@@ -62,9 +103,14 @@ impl Slate {
             && file.area == self.area
             && file.columns == self.columns
             && file.total == self.total
-            && file.lines == self.lines
-            && u32::from(file.first_line) == 1 + lines_before
+            && usize::from(file.lines) == self.height(number)
+            && usize::from(file.first_line) == self.first_line(number)
     }
+}
+
+/// Exact: no sum of 99 heights is too large for this.
+fn sum(heights: &[u16]) -> usize {
+    heights.iter().copied().map(usize::from).sum()
 }
 
 /// Which segments are in: mark k - 1 is segment k's.
@@ -105,8 +151,9 @@ pub fn offer(
     demand(slate.matches(&facts), OTHER_SHOT, 0)?;
     let number = usize::from(facts.number);
     demand(!record.has(number), ALREADY, 0)?;
-    let size = usize::from(slate.lines) * usize::from(slate.columns);
-    let part = &mut frame[(number - 1) * size..number * size];
+    let columns = usize::from(slate.columns);
+    let begin = (slate.first_line(number) - 1) * columns;
+    let part = &mut frame[begin..begin + slate.height(number) * columns];
     let counts = file[facts.header_length as usize..].chunks_exact(2);
     for (place, pair) in part.iter_mut().zip(counts) {
         let pair = [pair[0], pair[1]];
@@ -131,10 +178,12 @@ pub fn line<'a>(
 ) -> &'a [u16] {
     let line = usize::from(line);
     let columns = usize::from(slate.columns);
-    if check(slate, record, frame).is_err() || !(1..=slate.frame_lines()).contains(&line) {
+    if check(slate, record, frame).is_err() {
         return &[];
     }
-    let number = (line - 1) / usize::from(slate.lines) + 1;
+    let Some(number) = slate.covering(line) else {
+        return &[];
+    };
     if record.has(number) {
         &frame[(line - 1) * columns..line * columns]
     } else {

@@ -90,7 +90,7 @@ impl History {
     /// As `bridge.c` reads it.
     pub fn request(&self) -> Vec<u8> {
         let mut bytes = slate_bytes(&self.slate).to_vec();
-        bytes.extend(u32::from(self.watched).to_le_bytes());
+        bytes.extend(u64::from(self.watched).to_le_bytes());
         for length in [
             self.files.len(),
             self.stage.frame.len(),
@@ -190,16 +190,13 @@ fn write_counts(counts: &[u16], bytes: &mut Vec<u8>) {
     bytes.extend(counts.iter().flat_map(|count| count.to_le_bytes()));
 }
 
-/// An HsdSlate as it stands in memory.
-pub(crate) fn slate_bytes(slate: &Slate) -> [u8; 20] {
-    let mut bytes = [0; 20];
-    bytes[0] = slate.satellite;
-    bytes[1] = slate.total;
-    bytes[2..4].copy_from_slice(&slate.timeline.to_le_bytes());
-    bytes[4..6].copy_from_slice(&slate.band.to_le_bytes());
-    bytes[6..8].copy_from_slice(&slate.columns.to_le_bytes());
-    bytes[8..10].copy_from_slice(&slate.lines.to_le_bytes());
-    bytes[12..16].copy_from_slice(&slate.day.to_le_bytes());
-    bytes[16..20].copy_from_slice(&u32::from_be_bytes(slate.area).to_le_bytes());
+/// An HsdSlate as it stands in memory. Two bytes of padding before the day may hold anything.
+pub(crate) fn slate_bytes(slate: &Slate) -> Vec<u8> {
+    let mut bytes = vec![slate.satellite, slate.total];
+    write_counts(&[slate.timeline, slate.band, slate.columns], &mut bytes);
+    write_counts(&slate.heights, &mut bytes);
+    bytes.extend([0xaa; 2]);
+    bytes.extend(slate.day.to_le_bytes());
+    bytes.extend(u32::from_be_bytes(slate.area).to_le_bytes());
     bytes
 }

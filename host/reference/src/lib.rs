@@ -22,6 +22,7 @@ pub mod quality;
 pub mod random;
 pub mod readers;
 pub mod reel;
+pub mod shots;
 pub mod spoken;
 pub mod takes;
 pub mod tally;

@@ -1,17 +1,19 @@
 //! The histories on which frames are tried, each made from a seed and its number: small frames with
-//! good, strange, repeated and damaged files, some files in every order, and one full disk.
+//! good, strange, repeated and damaged files, frames of as many lines as can be, some files in every order,
+//! three heights in every order, and two full disks. Half of all are over uneven cuts.
 
-use crate::accept::{accept, day_of_date, Refusal};
-use crate::assemble::{Slate, ALREADY, MARKS, OTHER_SHOT, SLATE, STRIP};
+use crate::accept::{accept, Refusal};
+use crate::assemble::{even, uneven, Slate, ALREADY, MARKS, OTHER_SHOT, SLATE, STRIP};
 use crate::breach;
 use crate::damage;
 use crate::histories::{History, Played, Stage, Step, Told};
 use crate::make::{Recipe, Sample};
 use crate::mix::{setting, REFUSALS};
 use crate::random::Random;
+use crate::shots::{any_segment, any_shot, cut_of_sum, segment, shot_of_sum, stray, Shot};
 use crate::tally::{Place::At, Row};
 
-/// How many histories of each kind there are; the full disk comes last.
+/// How many histories of each kind there are; three heights in each order and the full disks come last.
 pub struct Takes {
     pub seed: u64,
     pub small: u64,
@@ -34,96 +36,41 @@ impl Takes {
     }
 
     pub fn cases(&self) -> u64 {
-        self.small + self.shuffled + 1
+        self.small + self.shuffled + 8
     }
 
     pub fn case(&self, case: u64) -> Take {
         let mut random = Random::of_case(self.seed, case);
         if case < self.small {
-            small_take(&mut random)
-        } else if case < self.small + self.shuffled {
-            Take {
+            return match random.below(200) {
+                0 => great_take(&mut random),
+                _ => small_take(&mut random),
+            };
+        }
+        let case = case - self.small;
+        if case < self.shuffled {
+            return Take {
                 kind: EVERY_ORDER,
                 history: in_every_order(&mut random),
-            }
-        } else {
-            Take {
-                kind: "a full disk",
-                history: full_disk(&mut random),
-            }
+            };
         }
+        last_take(case - self.shuffled, &mut random)
     }
+}
+
+/// Six times three heights, and then the two disks.
+fn last_take(place: u64, random: &mut Random) -> Take {
+    let (kind, history) = match place {
+        0..=5 => (THREE_HEIGHTS, three_heights(place as usize, random)),
+        6 => (FULL_DISK, full_disk(&[550; 10], random)),
+        _ => (FULL_DISK, full_disk(&THIN_TROPICS, random)),
+    };
+    Take { kind, history }
 }
 
 pub const EVERY_ORDER: &str = "files in every order";
-
-/// A small shot; its segments differ from it in number, first line, byte order and entries.
-pub(crate) fn any_shot(random: &mut Random) -> Recipe {
-    let (total, lines) = match random.below(8) {
-        0 => (random.within(7, 99), 1),
-        1 => (1, random.within(1, 5)),
-        _ => (random.within(2, 6), random.within(1, 3)),
-    };
-    Recipe {
-        columns: random.within(1, 5),
-        lines,
-        number: 1,
-        total,
-        first_line: 1,
-        ..Recipe::small(random)
-    }
-}
-
-pub(crate) fn slate_of(shot: &Recipe) -> Slate {
-    let day = day_of_date(shot.year, shot.month, shot.day).expect("a real date");
-    Slate {
-        satellite: shot.satellite as u8,
-        day: day as u32,
-        timeline: shot.timeline as u16,
-        band: shot.band as u16,
-        area: shot.area,
-        columns: shot.columns as u16,
-        total: shot.total as u8,
-        lines: shot.lines as u16,
-    }
-}
-
-fn segment(shot: &Recipe, number: u64, random: &mut Random) -> Recipe {
-    Recipe {
-        order: random.below(2),
-        number,
-        first_line: 1 + (number - 1) * shot.lines,
-        a: random.below(3),
-        b: random.below(3),
-        c: random.below(3),
-        ..shot.clone()
-    }
-}
-
-pub(crate) fn any_segment(shot: &Recipe, random: &mut Random) -> Recipe {
-    let number = random.within(1, shot.total);
-    segment(shot, number, random)
-}
-
-/// A good file that differs from a segment of the shot in one thing, hardly ever in none.
-pub(crate) fn stray(shot: &Recipe, random: &mut Random) -> Recipe {
-    let other = Recipe::small(random);
-    let mut stray = any_segment(shot, random);
-    match random.below(10) {
-        0 => (stray.year, stray.month, stray.day) = (other.year, other.month, other.day),
-        1 => stray.timeline = other.timeline,
-        2 => stray.band = other.band,
-        3 => stray.area = other.area,
-        4 => stray.satellite = 17 - stray.satellite,
-        5 => stray.columns = random.within(1, 6),
-        6 => stray.total = random.within(stray.number, 99),
-        7 => stray.lines = random.within(1, 4),
-        8 => stray.first_line = random.within(1, stray.total * stray.lines + 2),
-        // where another number's segment lies
-        _ => stray.number = random.within(1, stray.total),
-    }
-    stray
-}
+const THREE_HEIGHTS: &str = "heights of 3, 1 and 2 in one of six orders";
+const FULL_DISK: &str = "a full disk";
 
 /// The same counts in the other byte order, below a header with other bytes where any may be.
 fn copy(sample: &Sample, random: &mut Random) -> Sample {
@@ -141,7 +88,7 @@ fn copy(sample: &Sample, random: &mut Random) -> Sample {
 
 /// A file that may be of the shot, or nearly: the reference says what becomes of it. It may repeat
 /// one of the good segments that are there already.
-fn any_file(shot: &Recipe, good: &[Sample], random: &mut Random) -> Sample {
+fn any_file(shot: &Shot, good: &[Sample], random: &mut Random) -> Sample {
     let recipe = any_segment(shot, random);
     let mut sample = Sample::make(&recipe, random);
     match random.below(16) {
@@ -184,7 +131,7 @@ fn bytes_of(samples: Vec<Sample>) -> Vec<Vec<u8>> {
 }
 
 /// The good segments of some numbers, and then so many other files.
-fn any_files(shot: &Recipe, numbers: &[u64], others: u64, random: &mut Random) -> Vec<Vec<u8>> {
+fn any_files(shot: &Shot, numbers: &[u64], others: u64, random: &mut Random) -> Vec<Vec<u8>> {
     let mut good = Vec::new();
     for number in numbers {
         let recipe = segment(shot, *number, random);
@@ -195,39 +142,86 @@ fn any_files(shot: &Recipe, numbers: &[u64], others: u64, random: &mut Random) -
     bytes_of(good)
 }
 
-fn small_take(random: &mut Random) -> Take {
-    let shot = any_shot(random);
-    let mut numbers: Vec<u64> = (1..=shot.total.min(6)).collect();
-    numbers.retain(|_| random.below(4) > 0);
-    let others = random.below(5);
-    let files = any_files(&shot, &numbers, others, random);
-    let slate = slate_of(&shot);
-    let columns = usize::from(slate.columns);
-    let leader = random.pick(&[0, columns - 1, columns, columns + 1, 3 * columns]);
-    let room = match random.below(8) {
-        0 => random.pick(&[0, columns - 1]),
-        _ => random.pick(&[columns, columns + 2]),
-    };
-    let mut history = History {
+/// The numbers of a shot's segments in any order, at most so many of them.
+fn any_numbers(shot: &Shot, most: usize, random: &mut Random) -> Vec<u64> {
+    let mut numbers: Vec<u64> = (1..=shot.segment.total).collect();
+    shuffle(&mut numbers, random);
+    numbers.truncate(most);
+    numbers
+}
+
+/// Frame, leader and output as the slate asks for, all steps watched.
+fn staged(slate: Slate, files: Vec<Vec<u8>>, steps: Vec<Step>, random: &mut Random) -> History {
+    History {
         slate,
         stage: Stage {
             marks: vec![0; MARKS],
             frame: any_counts(slate.frame_size(), random),
         },
-        leader: any_counts(leader, random),
-        room,
+        leader: any_counts(usize::from(slate.columns), random),
+        room: usize::from(slate.columns),
         watched: true,
-        steps: any_steps(&slate, files.len(), random),
         files,
+        steps,
+    }
+}
+
+fn small_take(random: &mut Random) -> Take {
+    let shot = any_shot(random);
+    let mut numbers = any_numbers(&shot, 6, random);
+    numbers.retain(|_| random.below(4) > 0);
+    let others = random.below(5);
+    let files = any_files(&shot, &numbers, others, random);
+    let slate = shot.slate();
+    let steps = any_steps(&slate, files.len(), random);
+    let mut history = staged(slate, files, steps, random);
+    let columns = usize::from(slate.columns);
+    let leader = random.pick(&[0, columns - 1, columns, columns + 1, 3 * columns]);
+    history.leader = any_counts(leader, random);
+    history.room = match random.below(8) {
+        0 => random.pick(&[0, columns - 1]),
+        _ => random.pick(&[columns, columns + 2]),
     };
     let kind = match random.below(20) {
-        0..=2 => spoil_slate(&mut history, random),
-        3 => spoil_frame(&mut history, random),
-        4 | 5 => spoil_marks(&mut history, random),
-        6 | 7 => invent_marks(&mut history, random),
+        0 | 1 => spoil_slate(&mut history, random),
+        2 | 3 => spoil_heights(&mut history, random),
+        4 => spoil_frame(&mut history, random),
+        5 | 6 => spoil_marks(&mut history, random),
+        7 | 8 => invent_marks(&mut history, random),
         _ => "a good slate, opened",
     };
     Take { kind, history }
+}
+
+/// As many lines as a frame can have, or one more.
+fn great_take(random: &mut Random) -> Take {
+    let (sum, kind) = random.pick(&[
+        (22_000, "heights of the greatest sum"),
+        (22_001, "heights of one line too many"),
+    ]);
+    let shot = shot_of_sum(sum, random);
+    let numbers = any_numbers(&shot, 3, random);
+    let others = random.below(3);
+    let files = any_files(&shot, &numbers, others, random);
+    let slate = shot.slate();
+    let mut steps = vec![Step::Open];
+    steps.extend((0..files.len() as u16).map(Step::Offer));
+    steps.extend(borders(&slate));
+    let history = staged(slate, files, steps, random);
+    Take { kind, history }
+}
+
+/// Every line, and one beyond either end.
+fn all_lines(slate: &Slate) -> impl Iterator<Item = Step> {
+    (0..=slate.frame_lines() + 1).map(|line| Step::Line(line as u16))
+}
+
+/// Two lines on either side of where a segment begins or the frame ends.
+fn borders(slate: &Slate) -> Vec<Step> {
+    let firsts = (1..=usize::from(slate.total)).map(|number| slate.first_line(number));
+    let ends = firsts.chain([slate.frame_lines() + 1]);
+    let around = ends.flat_map(|first| first.saturating_sub(2)..first + 2);
+    around.map(|line| Step::Line(line as u16)).collect()
 }
 
 /// Opening, every file in any order, some more than once, and every line: now and then a line or
@@ -250,32 +244,84 @@ fn any_steps(slate: &Slate, files: usize, random: &mut Random) -> Vec<Step> {
             _ => {}
         }
     }
-    let lines = (0..=last_line + 1).map(|line| Step::Line(line as u16));
-    steps.extend(lines);
+    steps.extend(all_lines(slate));
     steps.push(Step::Line(u16::MAX));
     steps
 }
 
-/// One part of the slate leaves its range. The frame has the size that the parts give, also where
-/// 16 bits would have it so.
+/// One part of the slate that is no height leaves its range.
 fn spoil_slate(history: &mut History, random: &mut Random) -> &'static str {
     let slate = &mut history.slate;
-    match random.below(9) {
+    match random.below(7) {
         0 => slate.satellite = random.pick(&[0, 7, 10, 255]),
         1 => slate.day = random.pick(&[0, 51_543, 88_069, slate.day + 65_536, u32::MAX]),
         2 => slate.timeline = random.pick(&[1, 60, 2_360, 2_400, 65_500]),
         3 => slate.band = random.pick(&[0, 17, slate.band + 256]),
         4 => slate.area = random.pick(&[*b"JP05", *b"R300", *b"fldk", *b"R421", [0; 4]]),
         5 => slate.columns = random.pick(&[0, 22_001, 65_535]),
-        6 => slate.total = random.pick(&[0, 100, 255]),
-        7 => slate.lines = random.pick(&[0, 22_001, 65_535]),
-        // the first product that is too large, and one that is 2 in 16 bits
-        _ => (slate.total, slate.lines) = random.pick(&[(1, 22_001), (11, 2_001), (99, 662)]),
+        _ => {
+            // with heights that are good wherever one is looked for
+            slate.heights[usize::from(slate.total)..].fill(1);
+            slate.total = random.pick(&[0, 100, 255]);
+        }
     }
-    let lines = slate.frame_lines() % 65_536;
-    let size = (lines * usize::from(slate.columns)).min(70_000);
-    history.stage.frame = any_counts(size, random);
+    frame_in_16_bits(history, random);
     "a bad slate"
+}
+
+/// The frame has the size that the slate's parts give, also where 16 bits would have it so.
+fn frame_in_16_bits(history: &mut History, random: &mut Random) {
+    let lines = history.slate.frame_lines() % 65_536;
+    let size = (lines * usize::from(history.slate.columns)).min(70_000);
+    history.stage.frame = any_counts(size, random);
+}
+
+/// A height or the sum of all leaves its range; or it is only beyond the last one that there are no heights.
+fn spoil_heights(history: &mut History, random: &mut Random) -> &'static str {
+    let slate = &mut history.slate;
+    let total = usize::from(slate.total);
+    let any = random.below(total as u64) as usize;
+    let place = random.pick(&[0, any, total - 1]);
+    let kind = match random.below(8) {
+        0..=2 => {
+            slate.heights[place] = 0;
+            "a height of 0"
+        }
+        3 => {
+            slate.heights[..total].fill(0);
+            "no height but 0"
+        }
+        4 => {
+            slate.heights[place] = random.pick(&[22_001, 65_535]);
+            "a height that is too great"
+        }
+        5 | 6 => {
+            slate.heights[total..].fill(0);
+            "a height of 0 beyond the last"
+        }
+        _ => {
+            (slate.total, slate.heights) = wrapping(random);
+            "heights of a sum that is small in 16 bits"
+        }
+    };
+    frame_in_16_bits(history, random);
+    kind
+}
+
+/// A total and heights: all sums are above 65,536.
+fn wrapping(random: &mut Random) -> (u8, [u16; MARKS]) {
+    let sum = random.within(65_537, 65_560);
+    let any = cut_of_sum(sum, 99, random);
+    let beyond = random.pick(&[0, 1, 65_535]);
+    random.pick(&[
+        (2, uneven(&[65_535, 3], beyond)),
+        (2, uneven(&[3, 65_535], beyond)),
+        (2, uneven(&[65_535, 22_001], beyond)),
+        (4, uneven(&[22_000, 22_000, 21_535, 2], beyond)),
+        (99, uneven(&any, beyond)),
+        (99, even(662)),
+        (99, even(65_535)),
+    ])
 }
 
 fn spoil_frame(history: &mut History, random: &mut Random) -> &'static str {
@@ -319,30 +365,36 @@ fn invent_marks(history: &mut History, random: &mut Random) -> &'static str {
 /// Two to five files, each order of them after an opening of its own.
 fn in_every_order(random: &mut Random) -> History {
     let shot = any_shot(random);
-    let mut numbers: Vec<u64> = (1..=shot.total).collect();
-    shuffle(&mut numbers, random);
-    numbers.truncate(random.within(1, 4) as usize);
+    let most = random.within(1, 4) as usize;
+    let numbers = any_numbers(&shot, most, random);
     let others = random.within(1, 5 - numbers.len() as u64);
     let files = any_files(&shot, &numbers, others, random);
-    let slate = slate_of(&shot);
+    let slate = shot.slate();
     let mut steps = Vec::new();
     for order in orders(files.len()) {
         steps.push(Step::Open);
         steps.extend(order.into_iter().map(Step::Offer));
     }
-    steps.extend((1..=slate.frame_lines()).map(|line| Step::Line(line as u16)));
-    History {
-        slate,
-        stage: Stage {
-            marks: vec![0; MARKS],
-            frame: any_counts(slate.frame_size(), random),
-        },
-        leader: any_counts(usize::from(slate.columns), random),
-        room: usize::from(slate.columns),
-        watched: true,
-        files,
-        steps,
+    steps.extend(all_lines(&slate));
+    staged(slate, files, steps, random)
+}
+
+/// Each segment alone, and then one after the other, every line each time.
+fn three_heights(place: usize, random: &mut Random) -> History {
+    let order = &orders(3)[place];
+    let heights: Vec<u16> = order.iter().map(|&at| [3, 1, 2][usize::from(at)]).collect();
+    let shot = Shot::cut(Recipe::small(random), &heights, place as u16);
+    let files = any_files(&shot, &[1, 2, 3], 0, random);
+    let slate = shot.slate();
+    let mut steps = Vec::new();
+    for offers in [&[0][..], &[1], &[2], &[0, 1, 2]] {
+        steps.push(Step::Open);
+        for offer in offers {
+            steps.push(Step::Offer(*offer));
+            steps.extend(all_lines(&slate));
+        }
     }
+    staged(slate, files, steps, random)
 }
 
 /// All orders of the numbers below an end.
@@ -426,7 +478,7 @@ fn alone(history: &History, file: usize) -> Option<(u8, Stage)> {
 
 /// Ten segments of the size that really comes, half of them big-endian, and a stray of ten minutes
 /// later.
-fn disk_files(shot: &Recipe, random: &mut Random) -> Vec<Vec<u8>> {
+fn disk_files(shot: &Shot, random: &mut Random) -> Vec<Vec<u8>> {
     let mut files = Vec::new();
     for number in 1..=10 {
         let recipe = Recipe {
@@ -444,33 +496,27 @@ fn disk_files(shot: &Recipe, random: &mut Random) -> Vec<Vec<u8>> {
     bytes_of(files)
 }
 
-/// After each file some lines are asked for, from every segment.
-fn full_disk(random: &mut Random) -> History {
-    let shot = Recipe {
+/// A disk whose middle is cut into thin strips.
+const THIN_TROPICS: [u16; 10] = [1_100, 800, 500, 250, 100, 101, 249, 500, 801, 1_099];
+
+/// After each file lines are asked for wherever a segment begins or ends, and in the middle.
+fn full_disk(heights: &[u16; 10], random: &mut Random) -> History {
+    let common = Recipe {
         columns: 5_500,
-        lines: 550,
-        total: 10,
         ..Recipe::plain()
     };
-    let slate = slate_of(&shot);
+    let shot = Shot::cut(common, heights, 0);
+    let slate = shot.slate();
     let files = disk_files(&shot, random);
     let mut steps = vec![Step::Open];
     for file in 0..files.len() as u16 {
         steps.push(Step::Offer(file));
+        steps.extend(borders(&slate));
         steps.extend((1..=5_500).step_by(275).map(Step::Line));
     }
-    steps.extend([Step::Line(5_500), Step::Line(5_501)]);
     History {
-        slate,
-        stage: Stage {
-            marks: vec![0; MARKS],
-            frame: vec![0; slate.frame_size()],
-        },
-        leader: any_counts(5_500, random),
-        room: 5_500,
         watched: false,
-        files,
-        steps,
+        ..staged(slate, files, steps, random)
     }
 }
 

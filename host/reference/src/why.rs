@@ -44,8 +44,9 @@ pub fn why(slate: &Slate, file: &[u8]) -> Result<Option<Difference>, Refusal> {
     Ok(all.find(|both| both.slate != both.file))
 }
 
-/// What a good slate and an accepted file say of a part.
+/// What a good slate and an accepted file say of a part. A slate's lines and first line are those of the file's number.
 fn sides(part: Part, slate: &Slate, file: &Facts) -> (u64, u64) {
+    let number = usize::from(file.number);
     match part {
         Satellite => (slate.satellite.into(), file.satellite.into()),
         Day => (slate.day.into(), file.day.into()),
@@ -54,8 +55,8 @@ fn sides(part: Part, slate: &Slate, file: &Facts) -> (u64, u64) {
         Area => (letters(slate.area), letters(file.area)),
         Columns => (slate.columns.into(), file.columns.into()),
         Total => (slate.total.into(), file.total.into()),
-        Lines => (slate.lines.into(), file.lines.into()),
-        FirstLine => (begins(slate, file), file.first_line.into()),
+        Lines => (slate.height(number) as u64, file.lines.into()),
+        FirstLine => (slate.first_line(number) as u64, file.first_line.into()),
     }
 }
 
@@ -63,9 +64,4 @@ fn sides(part: Part, slate: &Slate, file: &Facts) -> (u64, u64) {
 fn letters(area: [u8; 4]) -> u64 {
     area.into_iter()
         .fold(0, |before, letter| 256 * before + u64::from(letter))
-}
-
-/// Where the segment of the file's number begins in a frame of the slate's: a slate has no first line of its own.
-fn begins(slate: &Slate, file: &Facts) -> u64 {
-    1 + (u64::from(file.number) - 1) * u64::from(slate.lines)
 }

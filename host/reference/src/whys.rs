@@ -1,16 +1,17 @@
 //! The slates and files on which "why isn't it this shot?" is tried: each part off by one, alone and with another one,
 //! segments where they do not belong, strays, bad slates and refused files, and pairs that are made from a seed and their
-//! number. And the refusals that they can lead to.
+//! number. Half of the slates are uneven. And the refusals that they can lead to.
 
 use crate::accept::day_of_date;
-use crate::assemble::{Slate, MARKS, SLATE};
+use crate::assemble::{even, uneven, Slate, MARKS, SLATE};
 use crate::breach::{self, breaches};
 use crate::damage;
 use crate::histories::{History, Stage, Step};
 use crate::make::{areas, Recipe, Sample};
 use crate::mix::{large_case, refusals_after, setting, small_case};
 use crate::random::Random;
-use crate::takes::{any_segment, any_shot, slate_of, stray, Takes};
+use crate::shots::{any_segment, any_shot, stray, Shot};
+use crate::takes::Takes;
 use crate::tally::{Place::At, Row};
 use crate::why::{
     Part,
@@ -61,21 +62,22 @@ impl Whys {
     /// A segment of a small shot and its slate, some parts of either changed.
     pub fn case(&self, case: u64) -> Pair {
         let mut random = Random::of_case(self.seed, case);
-        let own = any_segment(&any_shot(&mut random), &mut random);
-        let (mut of_slate, mut of_file) = (own.clone(), own);
+        let mut shot = any_shot(&mut random);
+        let mut file = any_segment(&shot, &mut random);
+        shot.segment = file.clone();
         let rare = random.pick(&[2, 4, 9, 30]);
         for part in PARTS {
-            if random.below(rare) == 0 {
-                let side = if random.coin() {
-                    &mut of_slate
-                } else {
-                    &mut of_file
-                };
-                change(side, part, &mut random);
+            if random.below(rare) > 0 {
+                continue;
+            }
+            if random.coin() {
+                change_slate(&mut shot, part, &mut random);
+            } else {
+                change(&mut file, part, &mut random);
             }
         }
-        let mut slate = slate_of(&of_slate);
-        let mut sample = Sample::make(&of_file, &mut random);
+        let mut slate = shot.slate();
+        let mut sample = Sample::make(&file, &mut random);
         let spoiled = random.below(12);
         if spoiled <= 1 {
             random.pick(&SPOILS)(&mut slate);
@@ -96,13 +98,17 @@ fn pair(kind: &'static str, slate: Slate, file: Vec<u8>) -> Pair {
     }
 }
 
-/// The slate of one recipe and the file of another, made to differ in this part first.
-fn made(kind: &'static str, slate: &Recipe, file: &Recipe, first: Part) -> Pair {
-    let bytes = Sample::make(file, &mut Random::new(1)).bytes;
+/// A file for a shot's slate, made to differ in this part first.
+fn made(kind: &'static str, shot: &Shot, file: &Recipe, first: Part) -> Pair {
     Pair {
         first: Some(first),
-        ..pair(kind, slate_of(slate), bytes)
+        ..unspoiled(kind, shot, file)
     }
+}
+
+fn unspoiled(kind: &'static str, shot: &Shot, file: &Recipe) -> Pair {
+    let bytes = Sample::make(file, &mut Random::new(1)).bytes;
+    pair(kind, shot.slate(), bytes)
 }
 
 /// A frame is opened and the file offered.
@@ -122,7 +128,8 @@ pub fn offering(slate: &Slate, file: &[u8]) -> History {
 }
 
 /// Segments on which a step can be taken: where a month or an hour ends, with the least and the greatest of everything.
-fn small_bases() -> Vec<Recipe> {
+/// Half of them are of even cuts.
+fn small_bases() -> Vec<Shot> {
     let at = |date: (u64, u64, u64), timeline, band, area: &[u8; 4]| Recipe {
         year: date.0,
         month: date.1,
@@ -132,66 +139,69 @@ fn small_bases() -> Vec<Recipe> {
         area: *area,
         ..Recipe::plain()
     };
-    let placed = |columns, lines, number, total, base: Recipe| Recipe {
-        columns,
-        lines,
-        number,
-        total,
-        first_line: 1 + (number - 1) * lines,
-        ..base
-    };
+    let night = at((2015, 7, 7), 200, 13, b"JP02");
+    let leap = at((2016, 2, 28), 1_250, 7, b"R301");
+    let year = at((2015, 12, 31), 50, 4, b"R420");
     let first = at((2000, 1, 1), 0, 1, b"FLDK");
     let last = at((2099, 12, 31), 2_350, 16, b"R520");
+    let strips: Vec<u16> = (0..99).map(|place| 201 + place % 40).collect();
     let bases = [
-        placed(4, 3, 2, 5, at((2015, 7, 7), 200, 13, b"JP02")),
-        placed(5, 2, 9, 10, at((2016, 2, 28), 1_250, 7, b"R301")),
-        placed(3, 2, 3, 3, at((2015, 12, 31), 50, 4, b"R420")),
-        placed(1, 1, 1, 1, first),
-        placed(1, 222, 99, 99, last),
+        (&night, 4, 2, &[3; 5][..]),
+        (&leap, 5, 9, &[2; 10]),
+        (&year, 3, 3, &[2; 3]),
+        (&first, 1, 1, &[1]),
+        (&last, 1, 99, &[222; 99]),
+        (&night, 4, 2, &[2, 3, 5, 1, 4]),
+        (&leap, 5, 9, &[1, 2, 2, 2, 3, 1, 1, 4, 3, 2]),
+        (&year, 3, 3, &[3, 1, 2]),
+        (&first, 1, 1, &[1, 2]),
+        (&last, 1, 99, &strips),
     ];
-    in_both(bases.into_iter().flat_map(|base| {
-        [8, 9].map(|satellite| Recipe {
-            satellite,
-            ..base.clone()
-        })
-    }))
-}
-
-/// In both byte orders.
-fn in_both(recipes: impl Iterator<Item = Recipe>) -> Vec<Recipe> {
-    let both = |recipe: Recipe| {
-        [0, 1].map(|order| Recipe {
+    let orders = bases.iter().enumerate().flat_map(|(place, base)| {
+        let order = place as u64 % 2;
+        [(8, order, base), (9, 1 - order, base)]
+    });
+    let all = orders.map(|(satellite, order, &(common, columns, number, heights))| {
+        let common = Recipe {
             order,
-            ..recipe.clone()
-        })
-    };
-    recipes.flat_map(both).collect()
+            satellite,
+            columns,
+            ..common.clone()
+        };
+        Shot::cut(common, heights, order as u16 * 65_535).at(number)
+    });
+    all.collect()
 }
 
 /// As wide and as high as can be, but not both.
-fn large_bases() -> Vec<Recipe> {
+fn large_bases() -> Vec<Shot> {
+    let mut thin = [1; 99];
+    thin[0] = 21_902;
     let sizes = [
-        (22_000, 1, 4),
-        (21_999, 1, 99),
-        (1, 22_000, 1),
-        (2, 11_000, 2),
+        (22_000, 4, &[1; 4][..]),
+        (21_999, 99, &[1; 99]),
+        (1, 1, &[22_000]),
+        (2, 2, &[11_000, 11_000]),
+        (22_000, 2, &[2, 1, 3]),
+        (1, 1, &[21_999, 1]),
+        (1, 2, &[21_999, 1]),
+        (1, 99, &thin),
     ];
-    in_both(sizes.into_iter().map(|(columns, lines, total)| Recipe {
-        columns,
-        lines,
-        number: total,
-        total,
-        first_line: 1 + (total - 1) * lines,
-        ..Recipe::plain()
-    }))
+    let both = sizes.into_iter().flat_map(|size| [(0, size), (1, size)]);
+    let all = both.map(|(order, (columns, number, heights))| {
+        let common = Recipe {
+            order,
+            columns,
+            ..Recipe::plain()
+        };
+        Shot::cut(common, heights, order as u16).at(number)
+    });
+    all.collect()
 }
 
 /// The part is one more or one less: a day, ten minutes, the area before or after. Nothing where its range ends.
 fn step(recipe: &Recipe, part: Part, up: bool) -> Option<Recipe> {
-    let one = |value: u64, first, last| {
-        let next = if up { value + 1 } else { value.checked_sub(1)? };
-        (first..=last).contains(&next).then_some(next)
-    };
+    let one = |value, first, last| beside(value, up).filter(|next| (first..=last).contains(next));
     let mut next = recipe.clone();
     match part {
         Satellite => next.satellite = one(recipe.satellite, 8, 9)?,
@@ -215,6 +225,36 @@ fn step(recipe: &Recipe, part: Part, up: bool) -> Option<Recipe> {
     Some(next)
 }
 
+fn beside(value: u64, up: bool) -> Option<u64> {
+    if up {
+        Some(value + 1)
+    } else {
+        value.checked_sub(1)
+    }
+}
+
+/// The same for a slate: the height is that of its segment, or all of them where they agree. It has no first line: the
+/// height before moves it.
+fn step_slate(shot: &Shot, part: Part, up: bool) -> Option<Shot> {
+    let mut next = shot.clone();
+    let total = shot.segment.total as usize;
+    let number = shot.segment.number as usize;
+    let moved = match part {
+        Lines if shot.slate().is_even() => 0..total,
+        Lines => number - 1..number,
+        FirstLine => number.checked_sub(2)?..number - 1,
+        _ => {
+            next.segment = step(&shot.segment, part, up)?;
+            next.reach(total);
+            0..0
+        }
+    };
+    for height in &mut next.heights[moved] {
+        *height = beside(u64::from(*height), up).filter(|&height| height > 0)? as u16;
+    }
+    Some(next)
+}
+
 /// The day after or before.
 fn date_beside(recipe: &Recipe, up: bool) -> Option<(u64, u64, u64)> {
     let (year, month, day) = (recipe.year, recipe.month, recipe.day);
@@ -232,24 +272,22 @@ fn date_beside(recipe: &Recipe, up: bool) -> Option<(u64, u64, u64)> {
     before.chain([(year - 1, 12, 31)]).find(|date| real(date))
 }
 
-/// Those that a slate has: where a segment begins follows from its lines.
-fn slate_has(part: Part) -> bool {
-    part != FirstLine
-}
-
 /// Each part alone, on either side.
 fn one_part() -> Vec<Pair> {
     let mut pairs = Vec::new();
     for base in small_bases().into_iter().chain(large_bases()) {
-        let bytes = Sample::make(&base, &mut Random::new(1)).bytes;
-        pairs.push(pair("nothing off", slate_of(&base), bytes));
+        pairs.push(unspoiled("nothing off", &base, &base.segment));
         for (part, up) in steps() {
-            let Some(other) = step(&base, part, up) else {
-                continue;
-            };
-            pairs.push(made("one part off in the file", &base, &other, part));
-            if slate_has(part) {
-                pairs.push(made("one part off in the slate", &other, &base, part));
+            if let Some(file) = step(&base.segment, part, up) {
+                pairs.push(made("one part off in the file", &base, &file, part));
+            }
+            if let Some(slate) = step_slate(&base, part, up) {
+                pairs.push(made(
+                    "one part off in the slate",
+                    &slate,
+                    &base.segment,
+                    part,
+                ));
             }
         }
     }
@@ -268,24 +306,26 @@ fn two_parts() -> Vec<Pair> {
     for base in small_bases() {
         for (one, one_up) in steps() {
             for (two, two_up) in steps().filter(|(two, _)| *two != one) {
-                let with_one = step(&base, one, one_up);
-                let with_two = step(&base, two, two_up);
-                let (Some(with_one), Some(with_two)) = (with_one, with_two) else {
-                    continue;
-                };
-                let with_both = step(&with_one, two, two_up).expect("each has room of its own");
-                let first = one.min(two);
-                pairs.push(made("two parts off in the file", &base, &with_both, first));
-                if slate_has(one) {
-                    pairs.push(made("one part off in each", &with_one, &with_two, first));
-                }
-                if slate_has(one) && slate_has(two) {
-                    pairs.push(made("two parts off in the slate", &with_both, &base, first));
-                }
+                pairs.extend(both_off(&base, (one, one_up), (two, two_up)));
             }
         }
     }
     pairs
+}
+
+fn both_off(base: &Shot, one: (Part, bool), two: (Part, bool)) -> impl Iterator<Item = Pair> {
+    let file = |from: &Recipe, (part, up)| step(from, part, up);
+    let slate = |from: &Shot, (part, up)| step_slate(from, part, up);
+    let first = one.0.min(two.0);
+    let in_file = file(&base.segment, one).and_then(|file_of| file(&file_of, two));
+    let in_slate = slate(base, one).and_then(|slate_of| slate(&slate_of, two));
+    let in_each = slate(base, one).zip(file(&base.segment, two));
+    let pairs = [
+        in_file.map(|file| made("two parts off in the file", base, &file, first)),
+        in_slate.map(|slate| made("two parts off in the slate", &slate, &base.segment, first)),
+        in_each.map(|(slate, file)| made("one part off in each", &slate, &file, first)),
+    ];
+    pairs.into_iter().flatten()
 }
 
 /// Each area against each other.
@@ -298,14 +338,15 @@ fn two_areas() -> Vec<Pair> {
                 area,
                 ..Recipe::plain()
             };
-            pairs.push(made("two areas", &of(area), &of(other), Area));
+            let shot = Shot::cut(of(area), &[2, 2 + place as u16 / 2 % 2], 0);
+            pairs.push(made("two areas", &shot, &of(other), Area));
         }
     }
     pairs
 }
 
 /// Totals and lines, up to as many as can be.
-const DIVISIONS: [(u64, u64); 9] = [
+const DIVISIONS: [(usize, u16); 9] = [
     (2, 2),
     (5, 3),
     (10, 2),
@@ -317,53 +358,83 @@ const DIVISIONS: [(u64, u64); 9] = [
     (1, 22_000),
 ];
 
-/// One column wide, from the first line that its number asks for.
-fn part_of((total, lines): (u64, u64), number: u64) -> Recipe {
-    Recipe {
-        order: number % 2,
+/// Shots one column wide that are cut so; and uneven ones, of as many segments and no more lines than can be.
+fn divided() -> Vec<Shot> {
+    let even = DIVISIONS.map(|(total, lines)| vec![lines; total]);
+    let uneven = DIVISIONS.map(|(total, lines)| {
+        let most = lines.max(3);
+        let strips = [most, 1, most / 2 + 1];
+        strips.into_iter().cycle().take(total).collect()
+    });
+    let common = Recipe {
         columns: 1,
-        lines,
-        number,
-        total,
-        first_line: 1 + (number - 1) * lines,
         ..Recipe::plain()
-    }
+    };
+    let cuts = even.into_iter().chain(uneven).enumerate();
+    let beyond = [0, 1, 65_535];
+    cuts.map(|(place, cut)| Shot::cut(common.clone(), &cut, beyond[place % 3]))
+        .collect()
 }
 
-/// The right segments, those that begin elsewhere, and those whose number is another than their place's.
+/// The right segments, those that begin elsewhere, those of another height, and those whose number is another than their
+/// place's.
 fn segments() -> Vec<Pair> {
     let mut pairs = Vec::new();
-    for division in DIVISIONS {
-        let (total, lines) = division;
-        for number in 1..=total {
-            let right = part_of(division, number);
-            let bytes = Sample::make(&right, &mut Random::new(1)).bytes;
-            pairs.push(pair("in its place", slate_of(&right), bytes));
-            let due = right.first_line;
-            let elsewhere = [
-                due - 1,
-                due + 1,
-                due + lines,
-                due + 256,
-                due % 256,
-                22_001 - lines,
-            ];
-            for first_line in elsewhere.into_iter().filter(|&line| line != due) {
-                let file = Recipe {
-                    first_line,
-                    ..right.clone()
-                };
-                pairs.push(made("another first line", &right, &file, FirstLine));
-            }
-            for other in [1, number - 1, number + 1, total] {
-                let file = Recipe {
-                    number: other,
-                    ..right.clone()
-                };
-                if other != number {
-                    pairs.push(made("another number", &right, &file, FirstLine));
-                }
-            }
+    for shot in divided() {
+        for number in 1..=shot.segment.total {
+            let right = Recipe {
+                order: number % 2,
+                ..shot.part(number)
+            };
+            pairs.push(unspoiled("in its place", &shot, &right));
+            pairs.extend(elsewhere(&shot, &right));
+            pairs.extend(like_others(&shot, &right));
+        }
+    }
+    pairs
+}
+
+/// From another line, that of an even cut among them.
+fn elsewhere(shot: &Shot, right: &Recipe) -> Vec<Pair> {
+    let due = right.first_line;
+    let lines = [
+        due - 1,
+        due + 1,
+        due + right.lines,
+        due + 256,
+        due % 256,
+        22_001 - right.lines,
+        1 + (right.number - 1) * right.lines,
+        1 + (right.number - 1) * u64::from(shot.heights[0]),
+    ];
+    let others = lines.into_iter().filter(|&line| line != due);
+    let at = others.map(|first_line| {
+        let file = Recipe {
+            first_line,
+            ..right.clone()
+        };
+        made("another first line", shot, &file, FirstLine)
+    });
+    at.collect()
+}
+
+/// With another one's number, height or first line.
+fn like_others(shot: &Shot, right: &Recipe) -> Vec<Pair> {
+    let (number, total) = (right.number, right.total);
+    let numbers = [1, number - 1, number + 1, total].into_iter();
+    let others = numbers.filter(|other| *other != number && (1..=total).contains(other));
+    let mut pairs = Vec::new();
+    for other in others.map(|other| shot.part(other)) {
+        let mut like = [right.clone(), right.clone(), right.clone()];
+        like[0].number = other.number;
+        like[1].first_line = other.first_line;
+        like[2].lines = other.lines;
+        let alike = other.lines == right.lines;
+        let differs = if alike { FirstLine } else { Lines };
+        pairs.push(made("another number", shot, &like[0], differs));
+        pairs.push(made("another's first line", shot, &like[1], FirstLine));
+        if !alike {
+            pairs.push(made("another's height", shot, &like[2], Lines));
         }
     }
     pairs
@@ -372,15 +443,18 @@ fn segments() -> Vec<Pair> {
 /// Numbers that the slate has not, and totals with them: in the place that the number asks for, and in the slate's last.
 fn numbers_above() -> Vec<Pair> {
     let mut pairs = Vec::new();
-    for (total, lines) in DIVISIONS {
-        let slate = part_of((total, lines), total);
-        for number in total + 1..=99 {
-            for first_line in [1 + (number - 1) * lines, slate.first_line, 1] {
+    for shot in divided() {
+        let last = shot.part(shot.segment.total);
+        for number in last.total + 1..=99 {
+            for first_line in [1 + (number - 1) * last.lines, last.first_line, 1] {
                 let file = Recipe {
+                    order: number % 2,
+                    number,
+                    total: number,
                     first_line,
-                    ..part_of((number, lines), number)
+                    ..last.clone()
                 };
-                pairs.push(made("a number above", &slate, &file, Total));
+                pairs.push(made("a number above", &shot, &file, Total));
             }
         }
     }
@@ -395,7 +469,7 @@ fn strays(whys: &Whys) -> Vec<Pair> {
         let shot = any_shot(&mut random);
         let stray = stray(&shot, &mut random);
         let bytes = Sample::make(&stray, &mut random).bytes;
-        pairs.push(pair("a stray", slate_of(&shot), bytes));
+        pairs.push(pair("a stray", shot.slate(), bytes));
     }
     let takes = Takes {
         seed: whys.seed,
@@ -409,9 +483,9 @@ fn strays(whys: &Whys) -> Vec<Pair> {
     pairs
 }
 
-/// Each puts a part of a good slate out of its range; the last ones make products that are too large, one of them 2 in 16
+/// Each puts a part of a good slate out of its range; the last ones make sums that are too large, some of them small in 16
 /// bits.
-const SPOILS: [fn(&mut Slate); 42] = [
+const SPOILS: [fn(&mut Slate); 54] = [
     |slate| slate.satellite = 0,
     |slate| slate.satellite = 7,
     |slate| slate.satellite = 10,
@@ -445,18 +519,30 @@ const SPOILS: [fn(&mut Slate); 42] = [
     |slate| slate.total = 0,
     |slate| slate.total = 100,
     |slate| slate.total = 255,
-    |slate| slate.lines = 0,
-    |slate| slate.lines = 22_001,
-    |slate| slate.lines = 65_535,
-    |slate| (slate.total, slate.lines) = (1, 22_001),
-    |slate| (slate.total, slate.lines) = (2, 11_001),
-    |slate| (slate.total, slate.lines) = (11, 2_001),
-    |slate| (slate.total, slate.lines) = (99, 223),
-    |slate| (slate.total, slate.lines) = (99, 662),
-    |slate| (slate.total, slate.lines) = (255, 65_535),
+    |slate| slate.heights[0] = 0,
+    |slate| slate.heights[slate.cut().len() / 2] = 0,
+    |slate| slate.heights[slate.cut().len() - 1] = 0,
+    |slate| slate.heights = even(0),
+    |slate| slate.heights[0] = 22_001,
+    |slate| slate.heights[slate.cut().len() - 1] = 22_001,
+    |slate| slate.heights[0] = 65_535,
+    |slate| slate.heights[slate.cut().len() - 1] = 65_535,
+    |slate| slate.heights = even(65_535),
+    |slate| (slate.total, slate.heights) = (1, even(22_001)),
+    |slate| (slate.total, slate.heights) = (2, even(11_001)),
+    |slate| (slate.total, slate.heights) = (11, even(2_001)),
+    |slate| (slate.total, slate.heights) = (99, even(223)),
+    |slate| (slate.total, slate.heights) = (99, even(662)),
+    |slate| (slate.total, slate.heights) = (99, even(65_535)),
+    |slate| (slate.total, slate.heights) = (255, even(65_535)),
+    |slate| (slate.total, slate.heights) = (2, uneven(&[22_000, 1], 0)),
+    |slate| (slate.total, slate.heights) = (2, uneven(&[1, 22_000], 0)),
+    |slate| (slate.total, slate.heights) = (2, uneven(&[65_535, 3], 0)),
+    |slate| (slate.total, slate.heights) = (3, uneven(&[2, 65_535, 1], 1)),
+    |slate| (slate.total, slate.heights) = (99, uneven(&[21_903], 1)),
 ];
 
-/// With a good file, one of another shot, every refused one, and no bytes.
+/// With a good file, one of another shot, every refused one, and no bytes: every other one with an uneven slate.
 fn bad_slates_with_any_file() -> Vec<Pair> {
     let mut pairs = Vec::new();
     let own = breach::recipe(1);
@@ -466,11 +552,13 @@ fn bad_slates_with_any_file() -> Vec<Pair> {
     };
     let mut files = refused(&own);
     files.extend([&own, &other].map(|recipe| Sample::make(recipe, &mut Random::new(1)).bytes));
+    let slates = [&[2, 2], &[2, 1]].map(|cut| Shot::cut(own.clone(), cut, 1).slate());
     for spoil in SPOILS {
-        let mut slate = slate_of(&own);
-        spoil(&mut slate);
-        let each = files.iter().cloned();
-        pairs.extend(each.map(|file| pair("a bad slate", slate, file)));
+        for (place, file) in files.iter().enumerate() {
+            let mut slate = slates[place % 2];
+            spoil(&mut slate);
+            pairs.push(pair("a bad slate", slate, file.clone()));
+        }
     }
     pairs
 }
@@ -486,14 +574,15 @@ fn refused(recipe: &Recipe) -> Vec<Vec<u8>> {
     broken.chain([vec![]]).collect()
 }
 
-/// With their own slate and with that of another shot.
+/// With their own slate and with that of another shot, even and uneven.
 fn refused_files() -> Vec<Pair> {
     let mut pairs = Vec::new();
     for own in [breach::recipe(0), breach::recipe(1), Recipe::plain()] {
         for (part, up) in steps() {
-            let of_slate = step(&own, part, up).unwrap_or(own.clone());
+            let shot = Shot::cut(own.clone(), &[2, 2 + u16::from(up)], 0);
+            let slate = step_slate(&shot, part, up).unwrap_or(shot).slate();
             let files = refused(&own).into_iter();
-            pairs.extend(files.map(|file| pair("a refused file", slate_of(&of_slate), file)));
+            pairs.extend(files.map(|file| pair("a refused file", slate, file)));
         }
     }
     pairs
@@ -512,10 +601,10 @@ fn damaged_files(whys: &Whys) -> Vec<Pair> {
         };
         let mut sample = Sample::make(&file, &mut random);
         way(&mut sample, &mut random);
-        pairs.push(pair("a damaged file", slate_of(&shot), sample.bytes));
+        pairs.push(pair("a damaged file", shot.slate(), sample.bytes));
     }
     for case in 0..2_000 {
-        let slate = slate_of(&any_shot(&mut random));
+        let slate = any_shot(&mut random).slate();
         let input = match case {
             0..=9 => large_case(&mut random),
             _ => small_case(&mut random),
@@ -546,6 +635,27 @@ fn change(recipe: &mut Recipe, part: Part, random: &mut Random) {
             1 => recipe.first_line += random.pick(&[recipe.lines, 256]),
             _ => recipe.number = random.within(1, recipe.total),
         },
+    }
+}
+
+/// The same in a slate: the height is that of its segment, or all of them where they agree, and a height before it moves
+/// the first line.
+fn change_slate(shot: &mut Shot, part: Part, random: &mut Random) {
+    let (number, total) = (shot.segment.number, shot.segment.total as usize);
+    if part == FirstLine {
+        if number > 1 {
+            let before = random.below(number - 1) as usize;
+            shot.heights[before] = random.within(1, 5) as u16;
+        }
+        return;
+    }
+    let is_even = shot.slate().is_even();
+    change(&mut shot.segment, part, random);
+    let lines = shot.segment.lines as u16;
+    match part {
+        Lines if is_even => shot.heights[..total].fill(lines),
+        Lines => shot.heights[number as usize - 1] = lines,
+        _ => shot.reach(total),
     }
 }
 

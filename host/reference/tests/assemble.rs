@@ -1,6 +1,6 @@
-//! Slate, record and frame by the reference: the rules of document 01, one by one.
+//! Slate, record and frame by the reference: the rules of documents 01 and 02, one by one.
 
-use reference::assemble::{line, offer, open, Record, Slate, MARKS, OUTSIDE};
+use reference::assemble::{even, line, offer, open, uneven, Record, Slate, MARKS, OUTSIDE};
 use reference::make::{Recipe, Sample};
 use reference::random::Random;
 use reference::takes::{check_orders, Takes};
@@ -14,7 +14,7 @@ const SLATE: Slate = Slate {
     area: *b"FLDK",
     columns: 4,
     total: 3,
-    lines: 2,
+    heights: even(2),
 };
 
 fn recipe(number: u64) -> Recipe {
@@ -29,10 +29,30 @@ fn recipe(number: u64) -> Recipe {
 /// A file whose counts are 1000 times its number, and on from there.
 fn file(recipe: &Recipe) -> Vec<u8> {
     let mut sample = Sample::make(recipe, &mut Random::new(1));
-    for place in 0..8 {
-        sample.put(12, 2 * place, 2, 1_000 * recipe.number + place as u64);
+    for place in 0..recipe.columns * recipe.lines {
+        sample.put(12, 2 * place as usize, 2, 1_000 * recipe.number + place);
     }
     sample.bytes
+}
+
+/// Cut by these heights.
+fn cut(heights: &[u16], beyond: u16) -> Slate {
+    Slate {
+        total: heights.len() as u8,
+        heights: uneven(heights, beyond),
+        ..SLATE
+    }
+}
+
+/// One segment of a shot with so many, in a place of its own.
+fn part(total: u64, number: u64, lines: u64, first_line: u64) -> Recipe {
+    Recipe {
+        total,
+        number,
+        lines,
+        first_line,
+        ..Recipe::plain()
+    }
 }
 
 fn record(marked: &[usize]) -> Record {
@@ -60,11 +80,176 @@ fn slates_are_good_within_their_ranges() {
     assert!(good(|s| s.area = *b"R520") && !good(|s| s.area = *b"JP05"));
     assert!(!good(|s| s.columns = 0) && good(|s| s.columns = 22_000));
     assert!(!good(|s| s.columns = 22_001) && !good(|s| s.total = 0) && good(|s| s.total = 99));
-    assert!(!good(|s| s.total = 100) && !good(|s| s.lines = 0));
-    // the product is what counts, and it is exact: 99 x 662 is 65,538
-    assert!(good(|s| (s.total, s.lines) = (2, 11_000)));
-    assert!(!good(|s| (s.total, s.lines) = (2, 11_001)));
-    assert!(!good(|s| (s.total, s.lines) = (99, 662)));
+    assert!(!good(|s| s.total = 100) && !good(|s| s.total = 255));
+}
+
+#[test]
+fn heights_are_at_least_1_and_their_sum_is_at_most_22_000() {
+    for heights in [
+        &[1][..],
+        &[22_000],
+        &[11_000, 11_000],
+        &[21_999, 1],
+        &[1, 21_999],
+        &[3, 1, 2],
+        &[1; 99],
+        &[222; 99],
+        &[10_000, 1, 11_999],
+    ] {
+        for beyond in [0, 1, 22_000, 65_535] {
+            assert!(cut(heights, beyond).is_good(), "{heights:?}, {beyond}");
+        }
+    }
+    let mut wraps = [662; 99];
+    wraps[40] = 661;
+    for heights in [
+        &[0][..],
+        &[0, 1, 2],
+        &[3, 0, 2],
+        &[3, 1, 0],
+        &[0; 99],
+        &[22_001],
+        &[22_000, 1],
+        &[1, 22_000],
+        &[11_000, 11_001],
+        &[10_000, 2, 11_999],
+        &[223; 99],
+        // in 16 bits 2, 0, 22,000, 2, 1 and 65,437
+        &[65_535, 3],
+        &[65_535, 1],
+        &[22_001, 65_535],
+        &[662; 99],
+        &wraps,
+        &[65_535; 99],
+    ] {
+        for beyond in [0, 1] {
+            assert!(!cut(heights, beyond).is_good(), "{heights:?}, {beyond}");
+        }
+    }
+}
+
+/// Document 01's slate has one number of lines for all segments: document 02's says the same where all heights agree.
+#[test]
+fn even_heights_are_as_one_number_of_lines() {
+    for total in 1..=99 {
+        let most = 22_000 / total;
+        for lines in [0, 1, 2, 3, 7, 222, most - 1, most, most + 1, 22_001, 65_535] {
+            let slate = Slate {
+                total: total as u8,
+                heights: even(lines as u16),
+                ..SLATE
+            };
+            assert_eq!(slate.is_good(), lines >= 1 && total * lines <= 22_000);
+            assert_eq!(slate.frame_lines(), total * lines);
+            assert_eq!(slate.frame_size(), total * lines * 4);
+            assert!((1..=total).all(|k| slate.first_line(k) == 1 + (k - 1) * lines));
+        }
+        for lines in 1..=20 {
+            let slate = Slate {
+                total: total as u8,
+                heights: even(lines as u16),
+                ..SLATE
+            };
+            let covering = |line| slate.covering(line);
+            assert!((1..=total * lines).all(|line| covering(line) == Some((line - 1) / lines + 1)));
+            assert_eq!(covering(0), None);
+            assert_eq!(covering(total * lines + 1), None);
+        }
+    }
+}
+
+/// Three heights in each order, where each segment begins, and which one covers each line.
+const THREE: [([u16; 3], [u64; 3], [usize; 6]); 6] = [
+    ([3, 1, 2], [1, 4, 5], [1, 1, 1, 2, 3, 3]),
+    ([3, 2, 1], [1, 4, 6], [1, 1, 1, 2, 2, 3]),
+    ([1, 3, 2], [1, 2, 5], [1, 2, 2, 2, 3, 3]),
+    ([1, 2, 3], [1, 2, 4], [1, 2, 2, 3, 3, 3]),
+    ([2, 3, 1], [1, 3, 6], [1, 1, 2, 2, 2, 3]),
+    ([2, 1, 3], [1, 3, 4], [1, 1, 2, 3, 3, 3]),
+];
+
+#[test]
+fn a_segment_begins_one_line_after_those_before_it_end() {
+    for (heights, firsts, covered) in THREE {
+        let slate = cut(&heights, 65_535);
+        assert_eq!((slate.frame_lines(), slate.frame_size()), (6, 24));
+        assert_eq!([1, 2, 3].map(|k| slate.first_line(k) as u64), firsts);
+        let covering: Vec<_> = (0..=7).map(|line| slate.covering(line)).collect();
+        assert_eq!(covering[1..7], covered.map(Some));
+        assert_eq!((covering[0], covering[7]), (None, None));
+    }
+}
+
+/// What each line shows with these numbers in: counts of its segment, or else of the leader.
+fn shown(numbers: &[usize], firsts: [u64; 3], covered: [usize; 6]) -> Vec<[u16; 4]> {
+    let each = covered.iter().enumerate().map(|(place, number)| {
+        let line = place as u16 + 1 - firsts[number - 1] as u16;
+        let first = if numbers.contains(number) {
+            1_000 * *number as u16 + 4 * line
+        } else {
+            1
+        };
+        [first, first + 1, first + 2, first + 3]
+    });
+    each.collect()
+}
+
+#[test]
+fn each_segment_is_placed_by_its_own_height_and_first_line() {
+    for (heights, firsts, covered) in THREE {
+        let slate = cut(&heights, 0);
+        let segment = |k: usize| part(3, k as u64, heights[k - 1].into(), firsts[k - 1]);
+        for numbers in [&[1][..], &[2], &[3], &[1, 2, 3], &[3, 2, 1], &[2, 3, 1]] {
+            let mut frame = [0; 24];
+            let mut marked = open(&slate, &mut frame).unwrap();
+            for &k in numbers {
+                let file = file(&segment(k));
+                assert_eq!(offer(&slate, &mut marked, &mut frame, &file), Ok(()));
+            }
+            assert_eq!(marked, record(numbers));
+            let at = |number| line(&slate, &marked, &frame, &[1, 2, 3, 4], number);
+            let lines: Vec<&[u16]> = (1..=6).map(at).collect();
+            assert_eq!(lines, shown(numbers, firsts, covered));
+            assert!([0, 7, u16::MAX].iter().all(|&line| at(line).is_empty()));
+        }
+    }
+}
+
+#[test]
+fn a_files_lines_are_compared_with_the_height_of_its_own_number() {
+    let slate = cut(&[3, 1, 2], 1);
+    let told = |number, lines, first_line| {
+        let file = file(&part(3, number, lines, first_line));
+        answer(&slate, &[], 24, &file)
+    };
+    assert_eq!(told(1, 3, 1), FINE);
+    assert_eq!(told(2, 1, 4), FINE);
+    assert_eq!(told(3, 2, 5), FINE);
+    // a neighbour's height
+    assert_eq!(told(1, 1, 1), (15, 0, 0));
+    assert_eq!(told(2, 3, 4), (15, 0, 0));
+    assert_eq!(told(3, 1, 5), (15, 0, 0));
+    // another's first line, and that of an even cut
+    assert_eq!(told(2, 1, 5), (15, 0, 0));
+    assert_eq!(told(2, 1, 2), (15, 0, 0));
+    assert_eq!(told(3, 2, 4), (15, 0, 0));
+    assert_eq!(told(3, 2, 3), (15, 0, 0));
+    // another's place
+    assert_eq!(told(2, 2, 5), (15, 0, 0));
+}
+
+#[test]
+fn what_stands_beyond_the_last_height_is_ignored() {
+    let takes = Takes::new(2_000, 0);
+    for case in 0..takes.small {
+        let mut history = takes.case(case).history;
+        let played = history.play().bytes();
+        let beyond = history.slate.cut().len();
+        for height in [0, 1, 22_000, 65_535] {
+            history.slate.heights[beyond..].fill(height);
+            assert_eq!(history.play().bytes(), played);
+        }
+    }
 }
 
 #[test]

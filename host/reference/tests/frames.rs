@@ -10,7 +10,7 @@ use std::time::Instant;
 
 use reference::histories::{History, Played, Step, Told};
 use reference::proved::Bridge;
-use reference::takes::{check_orders, opening, Takes, EVERY_ORDER, OFFERING};
+use reference::takes::{check_orders, opening, Ordered, Takes, EVERY_ORDER, OFFERING};
 use reference::tally::Tally;
 
 fn main() {
@@ -71,12 +71,15 @@ fn print_difference(history: &History, played: &Played, given: &[u8]) {
 }
 
 struct Seen {
-    kinds: BTreeMap<&'static str, u64>,
+    /// By kind, and by whether the cut is even.
+    kinds: BTreeMap<(&'static str, bool), u64>,
     opened: Tally,
     offered: Tally,
     lines: BTreeMap<&'static str, u64>,
     /// Each order of some files is a history.
     histories: u64,
+    /// Those over uneven cuts.
+    uneven: u64,
     orders: u64,
     /// Orders of files that are apart, and of those that agree without being so.
     apart: u64,
@@ -91,6 +94,7 @@ impl Seen {
             offered: Tally::new("placed", &OFFERING),
             lines: BTreeMap::new(),
             histories: 0,
+            uneven: 0,
             orders: 0,
             apart: 0,
             agree: 0,
@@ -98,19 +102,14 @@ impl Seen {
     }
 
     fn count(&mut self, kind: &'static str, history: &History, played: &Played) {
-        *self.kinds.entry(kind).or_default() += 1;
-        if kind == EVERY_ORDER {
-            let ordered = check_orders(history, played);
-            self.histories += ordered.orders;
-            self.orders += ordered.orders;
-            if ordered.apart {
-                self.apart += ordered.orders;
-            } else if ordered.agree {
-                self.agree += ordered.orders;
-            }
-        } else {
-            self.histories += 1;
-        }
+        let is_even = history.slate.is_even();
+        *self.kinds.entry((kind, is_even)).or_default() += 1;
+        let histories = match kind {
+            EVERY_ORDER => self.count_orders(&check_orders(history, played)),
+            _ => 1,
+        };
+        self.histories += histories;
+        self.uneven += if is_even { 0 } else { histories };
         for (step, told) in history.steps.iter().zip(&played.told) {
             match (step, told) {
                 (Step::Open, Told::Answer(answer, _)) => self.opened.count("openings", answer),
@@ -123,9 +122,21 @@ impl Seen {
         }
     }
 
+    /// How many they are.
+    fn count_orders(&mut self, ordered: &Ordered) -> u64 {
+        self.orders += ordered.orders;
+        if ordered.apart {
+            self.apart += ordered.orders;
+        } else if ordered.agree {
+            self.agree += ordered.orders;
+        }
+        ordered.orders
+    }
+
     fn print(&self, seconds: f64) {
-        for (kind, times) in &self.kinds {
-            println!("{times:>9}  {kind}");
+        for ((kind, is_even), times) in &self.kinds {
+            let cut = if *is_even { "even" } else { "uneven" };
+            println!("{times:>9}  {kind}, {cut}");
         }
         println!(
             "{:>9}  orders, of {} no two matching files bear one number, and of {} such files agree",
@@ -136,11 +147,18 @@ impl Seen {
         for (whose, times) in &self.lines {
             println!("{times:>9}  {whose}");
         }
-        println!("{} histories compared in {seconds:.1} s", self.histories);
+        println!(
+            "{} histories compared in {seconds:.1} s, {} of them over uneven cuts",
+            self.histories, self.uneven
+        );
     }
 
     /// No answer that can be given may be missing or rare, and no other may be given.
     fn check(&self, least: u64) {
+        let share = 100.0 * self.uneven as f64 / self.histories as f64;
+        assert!((45.0..=55.0).contains(&share), "{share} in 100 are uneven");
+        // fifteen kinds over either cut, heights that are all 0, and three that differ
+        assert_eq!(self.kinds.len(), 32, "{:?}", self.kinds);
         self.opened.check(least, least, least);
         self.offered.check(least, least, least / 10);
         assert_eq!(self.lines.len(), 3, "{:?}", self.lines);

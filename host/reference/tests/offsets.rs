@@ -6,7 +6,7 @@ use std::io;
 use std::sync::mpsc::channel;
 use std::thread;
 
-use reference::assemble::{Slate, MARKS};
+use reference::assemble::{even, Slate, MARKS};
 use reference::breach::breaches;
 use reference::film::frame_number;
 use reference::histories::{History, Stage, Step, Told};
@@ -277,7 +277,7 @@ const SLATE: Slate = Slate {
     area: *b"FLDK",
     columns: 4,
     total: 2,
-    lines: 2,
+    heights: even(2),
 };
 
 /// Opens a frame of so many counts, and offers the files.

@@ -5,6 +5,7 @@ use std::fs::File;
 use std::process::{Command, Output, Stdio};
 
 use reference::accept;
+use reference::assemble::{offer, open, uneven, Slate};
 
 fn testcard(arguments: &str) -> Command {
     let mut command = Command::new(concat!(env!("CARGO_MANIFEST_DIR"), "/../testcard"));
@@ -77,6 +78,77 @@ fn segments_join_to_one_picture() {
     assert_eq!(joined, whole);
 }
 
+/// Cuts of 60 lines.
+const CUTS: [&[u16]; 7] = [
+    &[59, 1],
+    &[10, 20, 30],
+    &[30, 10, 20],
+    &[20, 30, 10],
+    &[7, 20, 1, 32],
+    &[15, 15, 15, 15],
+    &[9, 6, 6, 3, 3, 3, 6, 6, 9, 9],
+];
+
+/// As it is typed, and as a slate.
+fn typed(heights: &[u16]) -> String {
+    let each: Vec<String> = heights.iter().map(u16::to_string).collect();
+    each.join("+")
+}
+
+fn slated(heights: &[u16]) -> Slate {
+    Slate {
+        satellite: 8,
+        day: 57_210,
+        timeline: 200,
+        band: 13,
+        area: *b"FLDK",
+        columns: 50,
+        total: heights.len() as u8,
+        heights: uneven(heights, 0),
+    }
+}
+
+#[test]
+fn a_segment_of_an_uneven_cut_says_what_was_asked_for() {
+    for (number, lines, first_line) in [(1, 3, 1), (2, 1, 4), (3, 4, 5), (4, 2, 9)] {
+        let ask = format!("8 20150707 0200 13 FLDK 5 3+1+4+2 {number} 4 0");
+        let facts = accept(&segment(&ask)).expect("it is good");
+        assert_eq!((facts.number, facts.total), (number, 4));
+        assert_eq!((facts.lines, facts.first_line), (lines, first_line));
+    }
+    // 900 + 1,850 + 1,850 + 900 lines of a real disk, here one column of it
+    let file = segment("8 20150707 0200 13 FLDK 1 900+1850+1850+900 2 4 0");
+    let facts = accept(&file).expect("it is good");
+    assert_eq!((facts.lines, facts.first_line), (1_850, 901));
+}
+
+#[test]
+fn uneven_segments_join_to_the_same_picture() {
+    let whole = counts(&segment("8 20150707 0200 13 FLDK 50 60 1 1 0"));
+    for heights in CUTS {
+        let (slate, total) = (slated(heights), heights.len());
+        let mut frame = vec![0; 50 * 60];
+        let mut record = open(&slate, &mut frame).expect("the slate is good");
+        for number in (1..=total).rev() {
+            let (word, order) = (typed(heights), number % 2);
+            let ask = format!("8 20150707 0200 13 FLDK 50 {word} {number} {total} {order}");
+            let placed = offer(&slate, &mut record, &mut frame, &segment(&ask));
+            assert_eq!(placed, Ok(()), "{ask}");
+        }
+        assert_eq!(record.tally(), total);
+        assert!(frame == whole, "{heights:?}");
+    }
+}
+
+#[test]
+fn heights_that_agree_are_as_one_number() {
+    for number in 1..=4 {
+        let even = segment(&format!("9 20240229 2350 7 R420 37 5 {number} 4 1"));
+        let each = segment(&format!("9 20240229 2350 7 R420 37 5+5+5+5 {number} 4 1"));
+        assert!(even == each);
+    }
+}
+
 #[test]
 fn another_shot_looks_different() {
     let shot = counts(&segment("8 20150707 0200 13 FLDK 50 6 4 10 0"));
@@ -94,6 +166,8 @@ fn the_largest_sizes_are_written() {
     assert_eq!(accept(&file).expect("it is good").first_line, 21_561);
     let file = segment("8 20150707 0200 3 FLDK 1 22000 1 1 1");
     assert_eq!(accept(&file).expect("it is good").lines, 22_000);
+    let file = segment("8 20150707 0200 3 FLDK 1 21999+1 2 2 0");
+    assert_eq!(accept(&file).expect("it is good").first_line, 22_000);
 }
 
 /// Nothing on standard output, one line on standard error, and a status that is not 0.
@@ -132,6 +206,18 @@ fn bad_arguments_are_told() {
         "8 20150707 0200 13 FLDK 8x 4 2 3 0",
         "8 20150707 0200 13 FLDK 8 22001 1 1 0",
         "8 20150707 0200 13 FLDK 8 11001 2 2 0",
+        "8 20150707 0200 13 FLDK 8 22000+1 2 2 0",
+        "8 20150707 0200 13 FLDK 8 65535+3 2 2 0",
+        "8 20150707 0200 13 FLDK 8 65536+3 2 2 0",
+        "8 20150707 0200 13 FLDK 8 4+4 2 3 0",
+        "8 20150707 0200 13 FLDK 8 4+4+4+4 2 3 0",
+        "8 20150707 0200 13 FLDK 8 4+0+4 2 3 0",
+        "8 20150707 0200 13 FLDK 8 4+4+ 2 3 0",
+        "8 20150707 0200 13 FLDK 8 +4+4 2 3 0",
+        "8 20150707 0200 13 FLDK 8 4++4 2 3 0",
+        "8 20150707 0200 13 FLDK 8 4+4,4 2 3 0",
+        "8 20150707 0200 13 FLDK 8 4+4x+4 2 3 0",
+        "8 20150707 0200 13 FLDK 8 + 1 2 0",
         "8 20150707 0200 13 FLDK 8 4 0 3 0",
         "8 20150707 0200 13 FLDK 8 4 4 3 0",
         "8 20150707 0200 13 FLDK 8 4 258 3 0",

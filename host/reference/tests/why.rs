@@ -2,7 +2,7 @@
 //! hand, and the offers that must go with it.
 
 use reference::accept;
-use reference::assemble::{offer, Record, Slate, MARKS, OTHER_SHOT};
+use reference::assemble::{even, offer, uneven, Record, Slate, MARKS, OTHER_SHOT};
 use reference::make::{Recipe, Sample};
 use reference::random::Random;
 use reference::why::{
@@ -22,7 +22,7 @@ const SLATE: Slate = Slate {
     area: *b"FLDK",
     columns: 4,
     total: 10,
-    lines: 2,
+    heights: even(2),
 };
 
 fn segment(number: u64) -> Recipe {
@@ -83,8 +83,8 @@ const IN_FILE: [Change<Recipe>; 9] = [
     (FirstLine, |r| r.first_line = 4, 5, 4),
 ];
 
-/// Each part that a slate has.
-const IN_SLATE: [Change<Slate>; 8] = [
+/// Each part of a slate; where the third segment begins follows from the heights before it.
+const IN_SLATE: [Change<Slate>; 9] = [
     (Satellite, |s| s.satellite = 9, 9, 8),
     (Day, |s| s.day = 57_209, 57_209, 57_210),
     (Timeline, |s| s.timeline = 150, 150, 200),
@@ -92,7 +92,8 @@ const IN_SLATE: [Change<Slate>; 8] = [
     (Area, |s| s.area = *b"R520", 0x5235_3230, 0x464c_444b),
     (Columns, |s| s.columns = 22_000, 22_000, 4),
     (Total, |s| s.total = 99, 99, 10),
-    (Lines, |s| s.lines = 3, 3, 2),
+    (Lines, |s| s.heights[2] = 3, 3, 2),
+    (FirstLine, |s| s.heights[1] = 1, 4, 5),
 ];
 
 #[test]
@@ -169,11 +170,70 @@ fn the_slate_says_where_the_files_number_begins() {
 }
 
 #[test]
+fn heights_are_those_of_the_files_own_number() {
+    let slate = Slate {
+        total: 4,
+        heights: uneven(&[3, 1, 4, 2], 65_535),
+        ..SLATE
+    };
+    let at = |number, lines, first_line| {
+        let recipe = Recipe {
+            total: 4,
+            number,
+            lines,
+            first_line,
+            ..Recipe::plain()
+        };
+        told(&slate, &recipe)
+    };
+    assert_eq!(at(1, 3, 1), None);
+    assert_eq!(at(2, 1, 4), None);
+    assert_eq!(at(3, 4, 5), None);
+    assert_eq!(at(4, 2, 9), None);
+    // a neighbour's height
+    assert_eq!(at(1, 1, 1), differ(Lines, 3, 1));
+    assert_eq!(at(2, 3, 4), differ(Lines, 1, 3));
+    assert_eq!(at(2, 4, 4), differ(Lines, 1, 4));
+    assert_eq!(at(4, 4, 9), differ(Lines, 2, 4));
+    // a neighbour's place
+    assert_eq!(at(3, 1, 4), differ(Lines, 4, 1));
+    assert_eq!(at(2, 1, 5), differ(FirstLine, 4, 5));
+    assert_eq!(at(3, 4, 9), differ(FirstLine, 5, 9));
+    // where an even cut of its own height, or of the first one's, would have it
+    assert_eq!(at(2, 1, 2), differ(FirstLine, 4, 2));
+    assert_eq!(at(3, 4, 7), differ(FirstLine, 5, 7));
+    assert_eq!(at(4, 2, 10), differ(FirstLine, 9, 10));
+    assert_eq!(at(4, 2, 7), differ(FirstLine, 9, 7));
+}
+
+/// With one number of lines for all segments, as document 01 has it.
+#[test]
+fn an_even_slate_agrees_as_before() {
+    let whys = Whys::new(20_000);
+    let mut times = [0; 2];
+    for pair in (0..whys.cases).map(|case| whys.case(case)) {
+        let (slate, told) = (&pair.slate, why(&pair.slate, &pair.file));
+        let (true, Ok(file), Ok(told)) = (slate.is_even(), accept(&pair.file), told) else {
+            continue;
+        };
+        let lines = slate.heights[0];
+        let agrees = (file.satellite, file.day, file.timeline)
+            == (slate.satellite, slate.day, slate.timeline)
+            && (file.band, file.area, file.columns) == (slate.band, slate.area, slate.columns)
+            && (file.total, file.lines) == (slate.total, lines)
+            && file.first_line == 1 + (u16::from(file.number) - 1) * lines;
+        assert_eq!(told.is_none(), agrees);
+        times[usize::from(agrees)] += 1;
+    }
+    assert!(times.iter().all(|&times| times >= 1_000), "{times:?}");
+}
+
+#[test]
 fn the_last_of_99() {
     let slate = Slate {
         columns: 1,
         total: 99,
-        lines: 222,
+        heights: even(222),
         ..SLATE
     };
     let at = |first_line| {

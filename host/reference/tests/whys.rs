@@ -118,6 +118,7 @@ struct Seen {
     /// Those that differ, by their first part.
     parts: [u64; 9],
     refusals: u64,
+    uneven: u64,
     offers: u64,
     proved_offers: u64,
 }
@@ -129,6 +130,7 @@ impl Seen {
             agree: 0,
             parts: [0; 9],
             refusals: 0,
+            uneven: 0,
             offers: 0,
             proved_offers: 0,
         }
@@ -141,23 +143,29 @@ impl Seen {
             Ok(Some(difference)) => self.parts[difference.part as usize - 1] += 1,
             Err(_) => self.refusals += 1,
         }
+        self.uneven += u64::from(!due.slate.is_even());
         self.offers += u64::from(due.offered);
         self.proved_offers += u64::from(due.history.is_some());
     }
 
+    fn questions(&self) -> u64 {
+        self.agree + self.parts.iter().sum::<u64>() + self.refusals
+    }
+
     fn print(&self, seconds: f64) {
         let differ: u64 = self.parts.iter().sum();
-        let questions = self.agree + differ + self.refusals;
+        let questions = self.questions();
         let each = PARTS.iter().zip(self.parts);
         let each: Vec<String> = each
             .map(|(part, times)| format!("{part:?} {times}"))
             .collect();
         println!(
-            "{questions} questions compared in {seconds:.1} s: {} agree, {differ} differ ({}), {} refusals; {} offers, {} of \
-             them by the proved library, too",
+            "{questions} questions compared in {seconds:.1} s: {} agree, {differ} differ ({}), {} refusals; {} of uneven \
+             slates; {} offers, {} of them by the proved library, too",
             self.agree,
             each.join(", "),
             self.refusals,
+            self.uneven,
             self.offers,
             self.proved_offers
         );
@@ -167,6 +175,8 @@ impl Seen {
     /// each; of those that are made from their number most can be offered.
     fn check(&self, cases: u64) {
         self.answers.check(20_000, 150, 50);
+        let share = 100.0 * self.uneven as f64 / self.questions() as f64;
+        assert!((45.0..=55.0).contains(&share), "{share} in 100 are uneven");
         let rare = self.parts.iter().any(|&times| times < 500);
         assert!(!rare, "by part: {:?}", self.parts);
         assert!(self.agree >= 5_000, "only {} agree", self.agree);

@@ -3,7 +3,7 @@
 use super::{number, refused, remake, words};
 use crate::assemble::{line, offer, open, Record, Slate, MARKS, OUTSIDE, SLATE};
 use crate::make::{Recipe, Sample};
-use crate::takes::slate_of;
+use crate::shots::slate_of;
 
 const LEADER: [u16; 5] = [901, 902, 903, 904, 905];
 
