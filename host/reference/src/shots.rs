@@ -90,9 +90,9 @@ pub(crate) fn any_shot(random: &mut Random) -> Shot {
 }
 
 fn even_cut(random: &mut Random) -> Vec<u16> {
-    let (total, lines) = match random.below(8) {
+    let (total, lines) = match random.below(24) {
         0 => (random.within(7, 99), 1),
-        1 => (1, random.within(1, 5)),
+        1..=3 => (1, random.within(1, 5)),
         _ => (random.within(2, 6), random.within(1, 3)),
     };
     vec![lines as u16; total as usize]
@@ -100,7 +100,7 @@ fn even_cut(random: &mut Random) -> Vec<u16> {
 
 /// Not all heights agree.
 fn uneven_cut(random: &mut Random) -> Vec<u16> {
-    let total = match random.below(8) {
+    let total = match random.below(40) {
         0 => random.within(7, 99),
         _ => random.within(2, 6),
     };

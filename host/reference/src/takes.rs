@@ -42,7 +42,7 @@ impl Takes {
     pub fn case(&self, case: u64) -> Take {
         let mut random = Random::of_case(self.seed, case);
         if case < self.small {
-            return match random.below(200) {
+            return match random.below(400) {
                 0 => great_take(&mut random),
                 _ => small_take(&mut random),
             };
@@ -283,11 +283,11 @@ fn spoil_heights(history: &mut History, random: &mut Random) -> &'static str {
     let any = random.below(total as u64) as usize;
     let place = random.pick(&[0, any, total - 1]);
     let kind = match random.below(8) {
-        0..=2 => {
+        0 | 1 => {
             slate.heights[place] = 0;
             "a height of 0"
         }
-        3 => {
+        2 | 3 => {
             slate.heights[..total].fill(0);
             "no height but 0"
         }
