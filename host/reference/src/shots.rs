@@ -91,17 +91,23 @@ pub(crate) fn any_shot(random: &mut Random) -> Shot {
 
 fn even_cut(random: &mut Random) -> Vec<u16> {
     let (total, lines) = match random.below(24) {
-        0 => (random.within(7, 99), 1),
+        0 => (many(random), 1),
         1..=3 => (1, random.within(1, 5)),
         _ => (random.within(2, 6), random.within(1, 3)),
     };
     vec![lines as u16; total as usize]
 }
 
+/// More segments than most shots have: what is asked of them takes long, so mostly not very many.
+fn many(random: &mut Random) -> u64 {
+    let most = random.pick(&[20, 20, 99]);
+    random.within(7, most)
+}
+
 /// Not all heights agree.
 fn uneven_cut(random: &mut Random) -> Vec<u16> {
     let total = match random.below(40) {
-        0 => random.within(7, 99),
+        0 => many(random),
         _ => random.within(2, 6),
     };
     let mut heights: Vec<u16> = (0..total).map(|_| random.within(1, 5) as u16).collect();

@@ -269,10 +269,11 @@ fn spoil_slate(history: &mut History, random: &mut Random) -> &'static str {
     "a bad slate"
 }
 
-/// The frame has the size that the slate's parts give, also where 16 bits would have it so.
+/// The frame has the size that the slate's parts give, also where 16 bits would have it so; if that is not too large.
 fn frame_in_16_bits(history: &mut History, random: &mut Random) {
     let lines = history.slate.frame_lines() % 65_536;
-    let size = (lines * usize::from(history.slate.columns)).min(70_000);
+    let size = lines * usize::from(history.slate.columns);
+    let size = if size > 70_000 { 1_000 } else { size };
     history.stage.frame = any_counts(size, random);
 }
 
