@@ -102,11 +102,11 @@ fn pair(kind: &'static str, slate: Slate, file: Vec<u8>) -> Pair {
 fn made(kind: &'static str, shot: &Shot, file: &Recipe, first: Part) -> Pair {
     Pair {
         first: Some(first),
-        ..unspoiled(kind, shot, file)
+        ..pair_of(kind, shot, file)
     }
 }
 
-fn unspoiled(kind: &'static str, shot: &Shot, file: &Recipe) -> Pair {
+fn pair_of(kind: &'static str, shot: &Shot, file: &Recipe) -> Pair {
     let bytes = Sample::make(file, &mut Random::new(1)).bytes;
     pair(kind, shot.slate(), bytes)
 }
@@ -127,6 +127,15 @@ pub fn offering(slate: &Slate, file: &[u8]) -> History {
     }
 }
 
+/// The segment of this number in a shot so cut.
+fn base(common: &Recipe, columns: u64, number: u64, heights: &[u16]) -> Shot {
+    let common = Recipe {
+        columns,
+        ..common.clone()
+    };
+    Shot::cut(common, heights, 0).at(number)
+}
+
 /// Segments on which a step can be taken: where a month or an hour ends, with the least and the greatest of everything.
 /// Half of them are of even cuts.
 fn small_bases() -> Vec<Shot> {
@@ -145,58 +154,50 @@ fn small_bases() -> Vec<Shot> {
     let first = at((2000, 1, 1), 0, 1, b"FLDK");
     let last = at((2099, 12, 31), 2_350, 16, b"R520");
     let strips: Vec<u16> = (0..99).map(|place| 201 + place % 40).collect();
-    let bases = [
-        (&night, 4, 2, &[3; 5][..]),
-        (&leap, 5, 9, &[2; 10]),
-        (&year, 3, 3, &[2; 3]),
-        (&first, 1, 1, &[1]),
-        (&last, 1, 99, &[222; 99]),
-        (&night, 4, 2, &[2, 3, 5, 1, 4]),
-        (&leap, 5, 9, &[1, 2, 2, 2, 3, 1, 1, 4, 3, 2]),
-        (&year, 3, 3, &[3, 1, 2]),
-        (&first, 1, 1, &[1, 2]),
-        (&last, 1, 99, &strips),
-    ];
-    let orders = bases.iter().enumerate().flat_map(|(place, base)| {
-        let order = place as u64 % 2;
-        [(8, order, base), (9, 1 - order, base)]
-    });
-    let all = orders.map(|(satellite, order, &(common, columns, number, heights))| {
-        let common = Recipe {
-            order,
-            satellite,
-            columns,
-            ..common.clone()
-        };
-        Shot::cut(common, heights, order as u16 * 65_535).at(number)
-    });
-    all.collect()
+    in_both(&[
+        base(&night, 4, 2, &[3; 5]),
+        base(&leap, 5, 9, &[2; 10]),
+        base(&year, 3, 3, &[2; 3]),
+        base(&first, 1, 1, &[1]),
+        base(&last, 1, 99, &[222; 99]),
+        base(&night, 4, 2, &[2, 3, 5, 1, 4]),
+        base(&leap, 5, 9, &[1, 2, 2, 2, 3, 1, 1, 4, 3, 2]),
+        base(&year, 3, 3, &[3, 1, 2]),
+        base(&first, 1, 1, &[1, 2]),
+        base(&last, 1, 99, &strips),
+    ])
+}
+
+/// In both byte orders and of both satellites, with 0 or 65,535 beyond the last height.
+fn in_both(bases: &[Shot]) -> Vec<Shot> {
+    let mut both = Vec::new();
+    for (place, base) in bases.iter().enumerate() {
+        for order in [0, 1] {
+            let mut shot = base.clone();
+            shot.segment.order = order;
+            shot.segment.satellite = 8 + (place as u64 + order) % 2;
+            shot.heights[base.segment.total as usize..].fill(order as u16 * 65_535);
+            both.push(shot);
+        }
+    }
+    both
 }
 
 /// As wide and as high as can be, but not both.
 fn large_bases() -> Vec<Shot> {
+    let plain = Recipe::plain();
     let mut thin = [1; 99];
     thin[0] = 21_902;
-    let sizes = [
-        (22_000, 4, &[1; 4][..]),
-        (21_999, 99, &[1; 99]),
-        (1, 1, &[22_000]),
-        (2, 2, &[11_000, 11_000]),
-        (22_000, 2, &[2, 1, 3]),
-        (1, 1, &[21_999, 1]),
-        (1, 2, &[21_999, 1]),
-        (1, 99, &thin),
-    ];
-    let both = sizes.into_iter().flat_map(|size| [(0, size), (1, size)]);
-    let all = both.map(|(order, (columns, number, heights))| {
-        let common = Recipe {
-            order,
-            columns,
-            ..Recipe::plain()
-        };
-        Shot::cut(common, heights, order as u16).at(number)
-    });
-    all.collect()
+    in_both(&[
+        base(&plain, 22_000, 4, &[1; 4]),
+        base(&plain, 21_999, 99, &[1; 99]),
+        base(&plain, 1, 1, &[22_000]),
+        base(&plain, 2, 2, &[11_000; 2]),
+        base(&plain, 22_000, 2, &[2, 1, 3]),
+        base(&plain, 1, 1, &[21_999, 1]),
+        base(&plain, 1, 2, &[21_999, 1]),
+        base(&plain, 1, 99, &thin),
+    ])
 }
 
 /// The part is one more or one less: a day, ten minutes, the area before or after. Nothing where its range ends.
@@ -276,7 +277,7 @@ fn date_beside(recipe: &Recipe, up: bool) -> Option<(u64, u64, u64)> {
 fn one_part() -> Vec<Pair> {
     let mut pairs = Vec::new();
     for base in small_bases().into_iter().chain(large_bases()) {
-        pairs.push(unspoiled("nothing off", &base, &base.segment));
+        pairs.push(pair_of("nothing off", &base, &base.segment));
         for (part, up) in steps() {
             if let Some(file) = step(&base.segment, part, up) {
                 pairs.push(made("one part off in the file", &base, &file, part));
@@ -386,7 +387,7 @@ fn segments() -> Vec<Pair> {
                 order: number % 2,
                 ..shot.part(number)
             };
-            pairs.push(unspoiled("in its place", &shot, &right));
+            pairs.push(pair_of("in its place", &shot, &right));
             pairs.extend(elsewhere(&shot, &right));
             pairs.extend(like_others(&shot, &right));
         }

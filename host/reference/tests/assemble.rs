@@ -84,7 +84,7 @@ fn slates_are_good_within_their_ranges() {
 }
 
 #[test]
-fn heights_are_at_least_1_and_their_sum_is_at_most_22_000() {
+fn heights_are_good_up_to_a_sum_of_22_000() {
     for heights in [
         &[1][..],
         &[22_000],
@@ -100,6 +100,10 @@ fn heights_are_at_least_1_and_their_sum_is_at_most_22_000() {
             assert!(cut(heights, beyond).is_good(), "{heights:?}, {beyond}");
         }
     }
+}
+
+#[test]
+fn a_height_of_0_and_a_larger_sum_are_bad() {
     let mut wraps = [662; 99];
     wraps[40] = 661;
     for heights in [
@@ -128,32 +132,30 @@ fn heights_are_at_least_1_and_their_sum_is_at_most_22_000() {
     }
 }
 
-/// Document 01's slate has one number of lines for all segments: document 02's says the same where all heights agree.
+/// Document 01's slate has one number of lines for all segments: where all heights agree, that is what it still says.
 #[test]
 fn even_heights_are_as_one_number_of_lines() {
     for total in 1..=99 {
         let most = 22_000 / total;
         for lines in [0, 1, 2, 3, 7, 222, most - 1, most, most + 1, 22_001, 65_535] {
-            let slate = Slate {
-                total: total as u8,
-                heights: even(lines as u16),
-                ..SLATE
-            };
+            let slate = cut(&vec![lines as u16; total], 0);
             assert_eq!(slate.is_good(), lines >= 1 && total * lines <= 22_000);
             assert_eq!(slate.frame_lines(), total * lines);
             assert_eq!(slate.frame_size(), total * lines * 4);
             assert!((1..=total).all(|k| slate.first_line(k) == 1 + (k - 1) * lines));
         }
+    }
+}
+
+#[test]
+fn even_heights_cover_lines_as_one_number_of_lines() {
+    for total in 1..=99 {
         for lines in 1..=20 {
-            let slate = Slate {
-                total: total as u8,
-                heights: even(lines as u16),
-                ..SLATE
-            };
-            let covering = |line| slate.covering(line);
-            assert!((1..=total * lines).all(|line| covering(line) == Some((line - 1) / lines + 1)));
-            assert_eq!(covering(0), None);
-            assert_eq!(covering(total * lines + 1), None);
+            let slate = cut(&vec![lines as u16; total], 0);
+            let due = |line| Some((line - 1) / lines + 1);
+            assert!((1..=total * lines).all(|line| slate.covering(line) == due(line)));
+            assert_eq!(slate.covering(0), None);
+            assert_eq!(slate.covering(total * lines + 1), None);
         }
     }
 }
