@@ -17,7 +17,7 @@ pub struct Line(pub u16);
 
 pub struct Column(pub u16);
 
-// Made by `Slate::new` alone. The area is its four letters, the first one highest.
+// Made by `Slate::new` alone. The area is its four letters, the first one highest. Narrow parts come first, so that the heights lie where a copy is quick.
 pub struct Slate {
     satellite: u8,
     // the segments, N
@@ -371,6 +371,7 @@ fn height_in(heights: &[u16; 99], k: u8) -> u16
     heights[at]
 }
 
+// A height of one of the segments; what stands beyond them is none.
 fn within(inside: bool, height: u16) -> u16
     ensures { λ r. ⌜ r ≡ cond inside height 0 ⌝ }
 {
