@@ -7,7 +7,6 @@ use mathlib.Core.List.{List}
 use Prim.Native.Nat.{ℕ, zero, suc, _+_, _*_, _-_, _/_, _<_, _≤_}
 use native.Mathlib.Nat.{suc-mul, mod-lt, div-add-mod', div-lt-iff-lt-mul}
 use native.Mathlib.Omega.{arith}
-use borrow.Author.Tests.{le-leb}
 use Rattle.rules.specs.Rules.{fine, judge}
 use Rattle.accept.specs.declared.Facts.{Facts}
 use Rattle.accept.specs.Checks.{checks}
@@ -19,7 +18,8 @@ use Rattle.slate.proofs.Slate.start_of.Reads as start-of
 use Rattle.slate.proofs.Slate.frame_size.Reads as frame-size
 use Rattle.slate.proofs.Slate.cover_of.Reads as cover-of
 use Rattle.slate.proofs.Slate.matches.Reads as matching
-use Rattle.assembly.specs.History.{bears}
+use Rattle.slate.specs.Cut.{coverOf}
+use Rattle.assembly.specs.History.{bears, withinOf}
 use Rattle.promises.specs.Heights.{height, linesOf, Covering}
 use Rattle.promises.specs.Slated.{Good, Match}
 use Rattle.promises.specs.Even.{Even, linesEach, GoodEven, MatchEven}
@@ -34,6 +34,10 @@ module _ (s : Slate) (ev : Even s) where
   lines : (n : ℕ) → n ≤ s .total → linesOf s n ≡ n * linesEach s
   lines zero b = omega arith
   lines (suc n) b = omega (arith, lines n (omega arith), each (suc n) (omega arith) b, suc-mul n (linesEach s))
+
+  -- where a segment begins
+  pub first-line : (k : ℕ) → k ≤ s .total → 1 + linesOf s (k - 1) ≡ 1 + (k - 1) * linesEach s
+  first-line k b = rw (lines (k - 1) (omega arith))
 
   -- which slates are good
   good-is : Good s → GoodEven s
@@ -52,12 +56,12 @@ module _ (s : Slate) (ev : Even s) where
     match-is : Match s f → MatchEven s f
     match-is m =
         let b : f .number ≤ s .total = omega (arith, m .parts .total) in
-        record { parts = m .parts; lines = m .lines ∙ each (f .number) some b; first = m .first ∙ rw (lines (f .number - 1) (omega arith)) }
+        record { parts = m .parts; lines = m .lines ∙ each (f .number) some b; first = m .first ∙ first-line (f .number) b }
 
     match-of : MatchEven s f → Match s f
     match-of m =
         let b : f .number ≤ s .total = omega (arith, m .parts .total) in
-        record { parts = m .parts; lines = m .lines ∙ sym (each (f .number) some b); first = m .first ∙ rw (lines (f .number - 1) (omega arith)) }
+        record { parts = m .parts; lines = m .lines ∙ sym (each (f .number) some b); first = m .first ∙ sym (first-line (f .number) b) }
 
     pub match : Match s f ↔ MatchEven s f
     match = (match-is, match-of)
@@ -88,6 +92,15 @@ module _ (s : Slate) (ev : Even s) where
         begins = omega arith;
         ends = omega (arith, each (q + 1) (omega arith) (omega arith));
       })
+
+  -- and which of its lines that is
+  pub within : (line : ℕ) → GoodEven s → 1 ≤ line → line ≤ s .total * linesEach s → withinOf s line ≡ line - (line - 1) / linesEach s * linesEach s
+  within line g a b =
+      let most : line ≤ linesOf s (s .total) = rw (lines (s .total) (omega arith)) b in
+      let c = cut.covering s (good .1 g) line a most in
+      let k = covered line (coverOf s line) g a b c in
+      let n : coverOf s line - 1 ≡ (line - 1) / linesEach s = omega arith in
+      cut.within s (good .1 g) line a most ∙ ap (λ (m : ℕ). line - m) (ap (linesOf s) n ∙ lines ((line - 1) / linesEach s) (omega (arith, c .most)))
 
 -- ---- so the functions' answers are document 01's formulas
 

@@ -14,6 +14,7 @@ pub mod Runs
 pub mod Heights
 pub mod Slated
 pub mod Cut
+pub mod Room
 pub mod Even
 pub mod Reasons
 pub mod Offers

@@ -32,7 +32,6 @@ use Rattle.frame.proofs.tally.Reads as tally
 use Rattle.assembly.specs.History.{isFine, bears}
 use Rattle.assembly.proofs.Order.{not-so}
 use Rattle.promises.specs.Reels.{Own}
-use Rattle.promises.specs.Heights.{linesOf}
 use Rattle.promises.specs.Slated.{Good, Match, howMany}
 use Rattle.promises.proofs.Heights.{height-is, lines-are, begin-is, tall-exactly}
 

@@ -1,7 +1,6 @@
 -- An even slate is one whose heights agree. What document 01 says of a slate, in its own words, L being that height.
 use Prim.Native.Nat.{ℕ, _+_, _*_, _-_, _≤_}
 use mathlib.Core.Path.{_≡_}
-use mathlib.Core.List.{List, [], _∷_}
 use Rattle.accept.specs.declared.Facts.{Facts}
 use Rattle.slate.specs.declared.Slate.{Slate}
 use Rattle.promises.specs.Heights.{height}

@@ -10,7 +10,7 @@ ghost use Rattle.wire.specs.Wire.{digits};
 ghost use Rattle.rules.specs.Rules.{paper, judge};
 ghost use Rattle.slate.specs.Cut.{heightIn, heightOf, linesTo, allTall, goodCut};
 ghost use Rattle.slate.specs.Parts.{shotParts, cutParts, further, compareAll, comparing};
-ghost use Rattle.slate.specs.Slates.{goodSlate, slated, keptOf, partsOf, blank, SlatedAs, sizeOf, startOf, frameLines, frameSize, placeOf, hasLine, coverOr0, matching, paperReason, reasonOf};
+ghost use Rattle.slate.specs.Slates.{goodSlate, slated, keptOf, partsOf, blank, SlatedAs, sizeOf, startOf, frameSize, placeOf, hasLine, coverOr0, matching, paperReason, reasonOf};
 
 // A line and a column of the frame, both counted from 1; neither stands for the other.
 pub struct Line(pub u16);

@@ -1,8 +1,8 @@
 -- `cover_of`: within the frame, the first segment that reaches the line is the one that covers it.
-use mathlib.Core.Path.{_≡_, refl, sym, ap, _∙_}
+use mathlib.Core.Path.{_≡_, sym, ap, _∙_}
 use Prim.Native.Nat.{ℕ, _+_, _-_, _≤_, _<_}
 use borrow.Author.Tests.{not-true, not-false}
-use Rattle.slate.specs.Cut.{heightOf, linesTo, coverOf}
+use Rattle.slate.specs.Cut.{heightOf, linesTo}
 use Rattle.slate.specs.Slates.{coverOr0}
 use Rattle.slate.proofs.Cuts.{Covers, Inside, inside, cover-one, lines-none, lines-step}
 use native.Mathlib.Omega.{arith}
