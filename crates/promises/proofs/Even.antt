@@ -7,6 +7,7 @@ use mathlib.Core.List.{List}
 use Prim.Native.Nat.{ℕ, zero, suc, _+_, _*_, _-_, _/_, _<_, _≤_}
 use native.Mathlib.Nat.{suc-mul, mod-lt, div-add-mod', div-lt-iff-lt-mul}
 use native.Mathlib.Omega.{arith}
+use lib.ListN.{getD}
 use Rattle.rules.specs.Rules.{fine, judge}
 use Rattle.accept.specs.declared.Facts.{Facts}
 use Rattle.accept.specs.Checks.{checks}
@@ -20,12 +21,27 @@ use Rattle.slate.proofs.Slate.cover_of.Reads as cover-of
 use Rattle.slate.proofs.Slate.matches.Reads as matching
 use Rattle.slate.specs.Cut.{coverOf}
 use Rattle.assembly.specs.History.{bears, withinOf}
-use Rattle.promises.specs.Heights.{height, linesOf, Covering}
+use Rattle.promises.specs.Heights.{height, linesOf, Covering, given}
 use Rattle.promises.specs.Slated.{Good, Match}
 use Rattle.promises.specs.Even.{Even, linesEach, GoodEven, MatchEven}
 use Rattle.promises.proofs.Slated.{match-exactly, bears-exactly}
 use Rattle.promises.proofs.Heights.{one-covers}
 use Rattle.promises.proofs.Cut as cut
+use Rattle.promises.proofs.Room.{held}
+
+-- heights that are all l make an even slate, and l is its L
+module _ (satellite day timeline band area columns total l : ℕ) (heights : List ℕ) (most : total ≤ 99) (all : (k : ℕ) → k < total → getD heights k 0 ≡ l) where
+  abbrev made : Slate
+  made = given satellite day timeline band area columns total heights
+
+  is-l : (k : ℕ) → 1 ≤ k → k ≤ total → height made k ≡ l
+  is-l k a b = held satellite day timeline band area columns total heights k most a b ∙ all (k - 1) (omega arith)
+
+  pub even-made : Even made
+  even-made j k a b c d = is-l j a b ∙ sym (is-l k c d)
+
+  pub each-made : 1 ≤ total → linesEach made ≡ l
+  each-made a = is-l 1 (omega arith) a
 
 module _ (s : Slate) (ev : Even s) where
   each : (k : ℕ) → 1 ≤ k → k ≤ s .total → height s k ≡ linesEach s

@@ -2,13 +2,14 @@
 use mathlib.Core.Path.{_≡_, refl, sym, ap, subst, _∙_}
 use mathlib.Core.Bool.{Bool, true, false, cond}
 use mathlib.Core.List.{List, [], _∷_}
-use Prim.Native.Nat.{ℕ}
+use Prim.Native.Nat.{ℕ, _-_, _≤_}
 use native.Mathlib.Omega.{arith}
-use borrow.Author.Tests.{ltb-true}
+use borrow.Author.Tests.{le-leb, ltb-true, lt-ltb}
 use lib.Dec.{ltb}
 use lib.ListN.{length, getD}
 use denote.Ref.{now}
 use Rattle.wire.specs.Wire.{tab}
+use Rattle.wire.proofs.Rows.{getD-tab}
 use Rattle.rules.specs.Rules.{turned, Ruling, fine, refused, judge, here, after, tables, paper}
 use Rattle.rules.proofs.Judge.{exactly, holds, first-fails}
 use Rattle.slate.specs.declared.Slate.{Slate}
@@ -28,7 +29,7 @@ use Rattle.plugin_frames.proofs.hsd_offer.Reads as hsd-offer
 use Rattle.plugin_frames.proofs.hsd_line.Reads as hsd-line
 use Rattle.plugin_frames.proofs.hsd_why.Reads as hsd-why
 use Rattle.assembly.proofs.Order.{not-so}
-use Rattle.promises.specs.Heights.{given, SameTo, SameBut}
+use Rattle.promises.specs.Heights.{height, given, SameTo, SameBut}
 use Rattle.promises.specs.Slated.{Good, Makes, slateFrom}
 use Rattle.promises.proofs.Slated.{good-exactly}
 
@@ -49,6 +50,13 @@ makes s r p = record { made = λ g. good-so (exactly (slated s) .1 (holds (good-
 pub made : (κ : _) (a : _) (r : _) (t : _) → new.Post κ a r t
     → Makes (given (a .0) (a .1 .0) (a .1 .1 .0) (a .1 .1 .1 .0) (a .1 .1 .1 .1 .0) (a .1 .1 .1 .1 .1 .0) (a .1 .1 .1 .1 .1 .1 .0) (a .1 .1 .1 .1 .1 .1 .1 .0)) r
 made κ a r t p = makes _ r p
+
+-- what is made of given parts holds the N heights that were given
+pub held : (satellite day timeline band area columns total : ℕ) (heights : List ℕ) (k : ℕ) → total ≤ 99 → 1 ≤ k → k ≤ total
+    → height (given satellite day timeline band area columns total heights) k ≡ getD heights (k - 1) 0
+held satellite day timeline band area columns total heights k m a b =
+    let f : ℕ → ℕ = λ i. cond (ltb i total) (getD heights i 0) 0 in
+    rw (le-leb 1 k a, le-leb k 99 (omega arith)) (getD-tab f 99 (k - 1) (omega arith) ∙ rw (lt-ltb (k - 1) total (omega arith)))
 
 -- ---- what stands beyond the Nth height changes no answer
 
