@@ -98,7 +98,7 @@ static const char *slate_fault(const char *text, HsdSlate *slate)
     uint8_t marks[HSD_MARKS];
     uint16_t no_counts[1];
     if (!parse_slate(text, slate))
-        return "not a slate, as H08,20150707,0200,13,FLDK,5500,10,550";
+        return "not a slate, as H08,20150707,0200,13,FLDK,5500,10,550 or H08,20150707,0200,13,FLDK,5500,4,900+1850+1850+900";
     if (slate->day == 0)
         return "not a real date of 2000 to 2099";
     if (hsd_open(*slate, marks, HSD_MARKS, no_counts, 0).refusal == HSD_SLATE)
