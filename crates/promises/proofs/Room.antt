@@ -14,7 +14,7 @@ use Rattle.rules.specs.Rules.{turned, Ruling, fine, refused, judge, here, after
 use Rattle.rules.proofs.Judge.{exactly, holds, first-fails}
 use Rattle.slate.specs.declared.Slate.{Slate}
 use Rattle.slate.specs.declared.Slated.{Slated}
-use Rattle.slate.specs.Slates.{goodSlate, slated, blank, SlatedAs, reasonOf}
+use Rattle.slate.specs.Slates.{slated, blank, SlatedAs, reasonOf}
 use Rattle.slate.proofs.Paper.{slated-one}
 use Rattle.slate.proofs.Slate.new.Reads as new
 use Rattle.frame.specs.Records.{noMarks}
@@ -28,10 +28,9 @@ use Rattle.plugin_frames.proofs.hsd_open.Reads as hsd-open
 use Rattle.plugin_frames.proofs.hsd_offer.Reads as hsd-offer
 use Rattle.plugin_frames.proofs.hsd_line.Reads as hsd-line
 use Rattle.plugin_frames.proofs.hsd_why.Reads as hsd-why
-use Rattle.assembly.proofs.Order.{not-so}
 use Rattle.promises.specs.Heights.{height, given, SameTo, SameBut}
 use Rattle.promises.specs.Slated.{Good, Makes, slateFrom}
-use Rattle.promises.proofs.Slated.{good-exactly}
+use Rattle.promises.proofs.Slated.{good-exactly, not-good}
 
 no-slate : Good blank → ⊥
 unfolding blank
@@ -39,7 +38,7 @@ no-slate g = omega (arith, g .parts .some-total)
 
 makes : (s : Slate) (r : Slated) → SlatedAs s r → Makes s r
 unfolding slated after
-makes s r p = record { made = λ g. good-so (exactly (slated s) .1 (holds (good-exactly s .1 g) tt)); refused = λ b. bad-so (first-fails (slated s) (turned 13 0 0) .1 (here (not-so (goodSlate s) (λ e. b (good-exactly s .0 e))))) }
+makes s r p = record { made = λ g. good-so (exactly (slated s) .1 (holds (good-exactly s .1 g) tt)); refused = λ b. bad-so (first-fails (slated s) (turned 13 0 0) .1 (here (not-good s b))) }
   where
     good-so : judge fine (slated s) ≡ fine → (paper (r .verdict) ≡ fine) × (r .slate ≡ s)
     good-so e = (p .says ∙ e, p .is ∙ rw e)

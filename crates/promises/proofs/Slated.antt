@@ -139,12 +139,15 @@ module _ (s : Slate) where
   pub good-exactly : (goodSlate s ≡ true) ↔ Good s
   good-exactly = (good-is, good-of)
 
+  pub not-good : (Good s → ⊥) → goodSlate s ≡ false
+  not-good h = not-so (goodSlate s) (λ e. h (good-exactly .0 e))
+
 -- ---- asking why: the slate's refusal, then the file's own
 
 module _ (s : Slate) (f : List ℕ) where
   pub slate-first : (Good s → ⊥) → judge fine (asking s f) ≡ refused (turned 13 0 0)
   unfolding asking slated tables
-  slate-first h = first-fails (asking s f) (turned 13 0 0) .1 (here (not-so (goodSlate s) (λ e. h (good-exactly s .0 e))))
+  slate-first h = first-fails (asking s f) (turned 13 0 0) .1 (here (not-good s h))
 
   pub then-file : Good s → (u : Turned) → Own f u → judge fine (asking s f) ≡ refused u
   unfolding asking slated
