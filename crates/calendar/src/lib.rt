@@ -1,3 +1,4 @@
+#![tactic(auto)]
 // Dates as Modified Julian Days, timelines, a shot's slot, and the film frame number.
 mod sheet;
 

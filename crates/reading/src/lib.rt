@@ -1,3 +1,4 @@
+#![tactic(auto)]
 // What a count reads as by its segment's gain, constant and valid bits, and what quality flag 1 says.
 ghost use Rattle.std.specs.Prelude.{◌≡◌, ◌^◌, leb};
 ghost use Rattle.std.specs.Float.Ieee.{of_bits};
@@ -6,7 +7,7 @@ ghost use Rattle.reading.specs.Counts.{if_finite, reading_of, calibration_of};
 ghost use Rattle.reading.specs.Quality.{mark_of, lit_marks, marks_of};
 
 // Gain and constant travel together from block 5, with the band's valid bits.
-#[derive(Drop)]
+#[derive(Clone, Copy)]
 pub struct Calibration {
     pub gain: f64,
     pub constant: f64,
@@ -14,7 +15,7 @@ pub struct Calibration {
 }
 
 // The five kinds of reading; only radiance carries a number.
-#[derive(Drop)]
+#[derive(Clone, Copy)]
 pub enum Reading {
     Radiance(f64),
     ErrorPixel,
@@ -88,7 +89,7 @@ pub fn calibration_of(gain: u64, constant: u64, bits: u16) -> Calibration
     }
 }
 
-#[derive(Drop)]
+#[derive(Clone, Copy)]
 pub enum Mark {
     No,
     Yes,
@@ -96,7 +97,7 @@ pub enum Mark {
 }
 
 // The marks of quality flag 1, the highest bit first.
-#[derive(Drop)]
+#[derive(Clone, Copy)]
 pub struct Marks {
     // the flag is not valid
     pub invalid: Mark,

@@ -1,9 +1,10 @@
+#![tactic(auto)]
 // Refusals: why a file, a slate or a lent slice is turned away, and the verdict of checks made one after the other.
 ghost use Rattle.std.specs.Prelude.{◌≡◌};
 ghost use Rattle.rules.specs.Rules.{number_of, turned, paper, checked, placeless};
 
 // Why something is turned away; `number_of` in specs/ has the paper's number of each.
-#[derive(Drop)]
+#[derive(Clone, Copy)]
 pub enum Why {
     Short,
     Number,
@@ -38,7 +39,7 @@ pub enum Why {
 
 // A refusal; the block that it concerns, 0 where it concerns none and 12 for the counts; and where the field at fault stands, from the
 // file's first byte: 0 in block 0, and for values that come from no file.
-#[derive(Drop)]
+#[derive(Clone, Copy)]
 pub struct Refusal {
     pub why: Why,
     pub block: u8,
@@ -46,7 +47,7 @@ pub struct Refusal {
 }
 
 // What the checks so far say: nothing is wrong, or the refusal.
-#[derive(Drop)]
+#[derive(Clone, Copy)]
 pub enum Verdict {
     Fine,
     Refused(Refusal),

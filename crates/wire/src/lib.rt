@@ -1,3 +1,4 @@
+#![tactic(auto)]
 // Bytes and numbers: read at a place of a file, and stored at a place of a lent slice, in either byte order.
 // Every function takes every place: past the end a byte reads as 0, and nothing is stored.
 ghost use Rattle.std.specs.Prelude.{◌≡◌, [], ◌∷◌, ◌-◌, min, length, get_or, take, drop};
