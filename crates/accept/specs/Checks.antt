@@ -1,6 +1,6 @@
 -- The checks of a file in the paper's order: blocks 1 to 11, each with 1, 2, 3 (block 1), 4, 1 again (blocks 8 to 10),
 -- 5, 6, 31 to 38; then 8 to 12. A row is a test, and the number, block and offset of the refusal where it fails.
-use Rattle.std.specs.Prelude.{ℕ, ◌+◌, ◌*◌, ◌-◌, not, ◌||◌, List, [], ◌∷◌, length, get_or, leb, eqb}
+use Rattle.std.specs.Prelude.{ℕ, ◌+◌, ◌-◌, not, ◌||◌, List, [], ◌∷◌, length, get_or, leb, eqb}
 use Rattle.wire.specs.Wire.{span, num}
 use Rattle.rules.specs.Rules.{Row, row, tables}
 use Rattle.calendar.specs.Shots.{good_timeline}

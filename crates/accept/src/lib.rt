@@ -1,3 +1,4 @@
+#![tactic(auto)]
 // Acceptance: a byte string in, and out the file's facts or the first refusal with its number, block and offset.
 ghost use Rattle.std.specs.Prelude.{◌≡◌, ◌<◌};
 ghost use Rattle.rules.specs.Rules.{paper, fine, judge};
@@ -9,7 +10,7 @@ use reading::Calibration;
 use rules::{Refusal, Verdict, Why};
 
 // What an accepted file is known by.
-#[derive(Drop)]
+#[derive(Clone, Copy)]
 pub struct Facts {
     pub order: u8,
     // 8 or 9
@@ -38,7 +39,7 @@ pub struct Facts {
     pub header: u32,
 }
 
-#[derive(Drop)]
+#[derive(Clone, Copy)]
 pub enum Answer {
     Accepted(Facts),
     Refused(Refusal),

@@ -1,3 +1,4 @@
+#![tactic(auto)]
 // Blocks 1 to 7, whose lengths are fixed, stored in a lent output.
 ghost use Rattle.wire.specs.Wire.{join, Stored};
 ghost use Rattle.header.specs.Encode.{bytes1, bytes2, carrying, bytes5, bytes7, front_blocks};

@@ -1,3 +1,4 @@
+#![tactic(auto)]
 // What the format settles by name: satellites, areas, the sixteen bands, sizes, segments, and the file's own name.
 ghost use Rattle.std.specs.Prelude.{◌≡◌, [], ◌∷◌, ◌+◌, ◌-◌, ◌%◌, ◌≤◌};
 ghost use Rattle.wire.specs.Wire.{span, Stored};
@@ -93,7 +94,7 @@ pub fn good_first(first: u16, lines: u16) -> bool
 }
 
 // A band's valid bits and its resolution in tenths of a kilometre.
-#[derive(Drop)]
+#[derive(Clone, Copy)]
 pub struct Band {
     pub bits: u16,
     pub resolution: u8,

@@ -1,5 +1,5 @@
 -- The bytes of a header, block by block, as table 6 of document 000 has them.
-use Rattle.std.specs.Prelude.{ℕ, ◌+◌, ◌*◌, List, [], ◌∷◌, ◌++◌, length, get_or}
+use Rattle.std.specs.Prelude.{ℕ, List, [], ◌∷◌, ◌++◌, length, get_or}
 use Rattle.wire.specs.Wire.{digits, join, rows}
 use Rattle.header.specs.declared.Block1.{Block1}
 use Rattle.header.specs.declared.Block2.{Block2}

@@ -1,3 +1,4 @@
+#![tactic(auto)]
 // The header's values by block, as a file has them in a byte order: past its end every byte is 0.
 ghost use Rattle.std.specs.Prelude.{◌≡◌, ◌+◌, ◌*◌};
 ghost use Rattle.wire.specs.Wire.{span};
@@ -5,7 +6,7 @@ ghost use Rattle.header.specs.Places.{a_of, b_of, c_of, at9, at10, at11, header_
 ghost use Rattle.header.specs.Values.{block1_of, block2_of, block5_of, block7_of, block8_of, header_of};
 
 // Basic information.
-#[derive(Drop)]
+#[derive(Clone, Copy)]
 pub struct Block1 {
     pub order: u8,
     pub satellite: [u8; 16],
@@ -26,7 +27,7 @@ pub struct Block1 {
 }
 
 // Data information.
-#[derive(Drop)]
+#[derive(Clone, Copy)]
 pub struct Block2 {
     pub columns: u16,
     pub lines: u16,
@@ -35,7 +36,7 @@ pub struct Block2 {
 }
 
 // Calibration.
-#[derive(Drop)]
+#[derive(Clone, Copy)]
 pub struct Block5 {
     pub band: u16,
     pub wavelength: u64,
@@ -46,7 +47,7 @@ pub struct Block5 {
 }
 
 // Segment.
-#[derive(Drop)]
+#[derive(Clone, Copy)]
 pub struct Block7 {
     pub total: u8,
     pub number: u8,
@@ -55,7 +56,7 @@ pub struct Block7 {
 }
 
 // Position correction, but for its entries.
-#[derive(Drop)]
+#[derive(Clone, Copy)]
 pub struct Block8 {
     pub column: u32,
     pub line: u32,
@@ -64,7 +65,7 @@ pub struct Block8 {
 }
 
 // Every value of a header that is not derived, but the entries of blocks 8, 9 and 10.
-#[derive(Drop)]
+#[derive(Clone, Copy)]
 pub struct Header {
     pub block1: Block1,
     pub block2: Block2,

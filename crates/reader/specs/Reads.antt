@@ -2,7 +2,6 @@
 use Rattle.std.specs.Prelude.{ℕ, ◌≡◌, List, [], ◌∷◌, ◌++◌, length, drop, leb}
 use Rattle.rules.specs.Rules.{Row, row, tables, judge, Ruling, fine, paper, after}
 use Rattle.rules.specs.declared.Verdict.{Verdict}
-use Rattle.header.specs.declared.Header.{Header}
 use Rattle.header.specs.Places.{a_of, b_of, c_of}
 use Rattle.header.specs.Values.{header_of}
 use Rattle.header.specs.Entries.{entries_of}

@@ -1,3 +1,4 @@
+#![tactic(auto)]
 // The header of an accepted file as values, and its entries in lent slices.
 ghost use Rattle.std.specs.Prelude.{◌≡◌, ◌++◌, ◌≤◌, ◌<◌, length, drop};
 ghost use Rattle.rules.specs.Rules.{paper, judge};
@@ -8,7 +9,7 @@ use header::Header;
 use rules::{Verdict, Why};
 
 // The verdict on a file, and its values; those of a refused one are all 0.
-#[derive(Drop)]
+#[derive(Clone, Copy)]
 pub struct HeaderRead {
     pub verdict: Verdict,
     pub header: Header,

@@ -1,3 +1,4 @@
+#![tactic(auto)]
 // The header written to a lent output: every value that is not derived goes in, and lengths, sums, numbers and fixed values are derived.
 ghost use Rattle.std.specs.Prelude.{◌≡◌, ◌+◌, ◌*◌, ◌<◌, ◌≤◌, [], ◌∷◌, length, leb};
 ghost use Rattle.wire.specs.Wire.{digits, join, Stored};
