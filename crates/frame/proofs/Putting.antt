@@ -20,7 +20,6 @@ use Rattle.slate.specs.Cut.{height_of}
 use Rattle.slate.specs.Parts.{shot_parts, cut_parts, parts}
 use Rattle.slate.specs.Slates.{slated, good_slate, size_of, frame_size, matching}
 use Rattle.slate.proofs.Parts.{same_exactly}
-use Rattle.frame.specs.Counts.{counts}
 use Rattle.frame.specs.Frames.{put_at, ready, placing, offering, offered}
 
 -- a part that was lent and came back

@@ -1,5 +1,5 @@
 -- Asking for a line of a frame.
-use Rattle.std.specs.Prelude.{ℕ, ◌-◌, Bool, cond, ◌&&◌, ◌||◌, List, [], length, take, drop, eqb, leb}
+use Rattle.std.specs.Prelude.{ℕ, Bool, cond, ◌&&◌, ◌||◌, List, [], length, take, drop, eqb, leb}
 use Rattle.slate.specs.declared.Slate.{Slate}
 use Rattle.slate.specs.Cut.{cover_of}
 use Rattle.slate.specs.Slates.{frame_size, has_line, place_of}

@@ -1,3 +1,4 @@
+#![tactic(auto)]
 // A frame put together from segments: opening, offering files, and asking for lines. The record alone says what has come.
 ghost use Rattle.std.specs.Prelude.{◌≡◌, ◌+◌, ◌*◌, ◌-◌, ◌/◌, ◌%◌, ◌≤◌, ◌<◌, [], ◌∷◌, length, drop, replicate};
 ghost use Rattle.wire.specs.Wire.{num};
@@ -12,13 +13,13 @@ use rules::{Verdict, Why};
 use slate::{Column, Line, Slate};
 
 // The numbers 1 to 99 that are in; number k stands at k - 1.
-#[derive(Drop)]
+#[derive(Clone, Copy)]
 pub struct Record {
     pub marks: [bool; 99],
 }
 
 // A verdict, and the record that is now the newest.
-#[derive(Drop)]
+#[derive(Clone, Copy)]
 pub struct Held {
     pub verdict: Verdict,
     pub rec: Record,

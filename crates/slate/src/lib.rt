@@ -1,3 +1,4 @@
+#![tactic(auto)]
 // The slate of a frame: which shot is on it, how its lines are cut into segments, and which files it is for.
 ghost use Rattle.std.specs.Prelude.{◌≡◌, cond, ◌+◌, ◌*◌, ◌-◌, ◌≤◌};
 ghost use Rattle.wire.specs.Wire.{digits};
@@ -10,14 +11,14 @@ use accept::Facts;
 use rules::{Refusal, Verdict, Why};
 
 // A line and a column of the frame, both counted from 1; neither stands for the other.
-#[derive(Drop)]
+#[derive(Clone, Copy)]
 pub struct Line(pub u16);
 
-#[derive(Drop)]
+#[derive(Clone, Copy)]
 pub struct Column(pub u16);
 
 // Made by `Slate::new` alone. The area is its four letters, the first one highest. Narrow parts come first, so that the heights lie where a copy is quick.
-#[derive(Drop)]
+#[derive(Clone, Copy)]
 pub struct Slate {
     satellite: u8,
     // the segments, N
@@ -32,14 +33,14 @@ pub struct Slate {
 }
 
 // The verdict on a slate's parts, and the slate; refused parts make none, and it is blank.
-#[derive(Drop)]
+#[derive(Clone, Copy)]
 pub struct Slated {
     pub verdict: Verdict,
     pub slate: Slate,
 }
 
 // The parts of a slate that a file has, too, in the paper's order.
-#[derive(Drop)]
+#[derive(Clone, Copy)]
 pub enum Part {
     Satellite,
     Day,
@@ -53,7 +54,7 @@ pub enum Part {
 }
 
 // A part in which a slate and a file differ, and what each of them says of it.
-#[derive(Drop)]
+#[derive(Clone, Copy)]
 pub struct Difference {
     pub part: Part,
     pub slate: u64,
@@ -61,14 +62,14 @@ pub struct Difference {
 }
 
 // Every part is the same, or this one is the first that is not.
-#[derive(Drop)]
+#[derive(Clone, Copy)]
 pub enum Compared {
     Agrees,
     Differs(Difference),
 }
 
 // Why a file is not a segment of a slate's frame, if it is not.
-#[derive(Drop)]
+#[derive(Clone, Copy)]
 pub enum Reason {
     Compared(Compared),
     Refused(Refusal),
