@@ -1,3 +1,4 @@
+#![tactic(auto)]
 // A night's run of files: how many counts of the accepted ones read as each kind, and how many files were refused, by refusal.
 ghost use Rattle.std.specs.Prelude.{◌≡◌, true, ◌≤◌, ◌<◌, get_or, pos, ◌-ℤ◌};
 ghost use Rattle.rules.specs.Rules.{paper};
@@ -7,7 +8,7 @@ use rules::{Verdict, Why};
 use totals::Totals;
 
 // What a run holds; the place in `refused` is the refusal's number.
-#[derive(Drop)]
+#[derive(Clone, Copy)]
 pub struct Run {
     pub totals: Totals,
     pub accepted: u32,
@@ -15,7 +16,7 @@ pub struct Run {
 }
 
 // A verdict, the error pixels found less those listed, and the run that is now the newest.
-#[derive(Drop)]
+#[derive(Clone, Copy)]
 pub struct Added {
     pub verdict: Verdict,
     pub extra: i64,
@@ -104,6 +105,7 @@ fn number_at(run: Run, at: usize) -> u32
 }
 
 // Only that refusal's number grows, and RUN keeps all.
+#[tactic(auto, unfolding(crate::specs::Runs::with_refusal))]
 fn turned_away(run: Run, number: u8) -> Run
     requires { ((number ≡ 19 → ⊥) → open_run run ≡ true) × (number < 64) }
     ensures { result ≡ with_refusal run number }

@@ -1,3 +1,4 @@
+#![tactic(auto)]
 // Reels: whole files end to end, and then a trailer that points back.
 ghost use Rattle.std.specs.Prelude.{◌≡◌, ◌+◌, ◌-◌, ◌*◌, ◌≤◌, ◌<◌, true, length, take, drop};
 ghost use Rattle.wire.specs.Wire.{store};
@@ -9,14 +10,14 @@ ghost use Rattle.reel.specs.Writing.{sum_of, listed, good_list, writing, wrote, 
 use rules::{Refusal, Verdict, Why};
 
 // How many files a reel has, or why it is turned away.
-#[derive(Drop)]
+#[derive(Clone, Copy)]
 pub enum Opened {
     Files(u16),
     Refused(Refusal),
 }
 
 // Where a file stands in a reel.
-#[derive(Drop)]
+#[derive(Clone, Copy)]
 pub struct Place {
     pub offset: u32,
     pub length: u32,

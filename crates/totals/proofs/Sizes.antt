@@ -3,7 +3,7 @@
 use mathlib.Core.Path.{◌≡◌, ◌∙◌}
 use mathlib.Core.Bool.{Bool, and-eq-true_iff}
 use mathlib.Core.List.{List}
-use Prim.Native.Nat.{ℕ, ◌*◌, ◌-◌, ◌≤◌}
+use Prim.Native.Nat.{ℕ, ◌*◌, ◌≤◌}
 use native.Mathlib.Nat.{mul-le-mul, mul_comm}
 use native.Mathlib.Omega.{arith}
 use borrow.Author.Tests.{leb-true}
@@ -21,7 +21,7 @@ use Rattle.reading.specs.Counts.{reading_of}
 use Rattle.frame.specs.Counts.{counts, counts_of}
 use Rattle.frame.proofs.Copying.{counts_length}
 use Rattle.totals.specs.declared.Totals.{Totals}
-use Rattle.totals.specs.Kinds.{is_radiance, is_error, is_outside, is_over, is_uncalibrated, number, count_readings}
+use Rattle.totals.specs.Kinds.{is_radiance, is_error, is_outside, is_over, is_uncalibrated, count_readings}
 use Rattle.totals.specs.Counting.{Totalled}
 use Rattle.totals.specs.Files.{cal_of, totals_of}
 use Rattle.totals.proofs.Number.{number_most}

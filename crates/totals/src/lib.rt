@@ -1,3 +1,4 @@
+#![tactic(auto)]
 // How many counts of a file read as each kind, and how many error pixels its block 10 lists.
 ghost use Rattle.std.specs.Prelude.{◌≡◌, true, cond, ◌*◌, ◌≤◌, min, length};
 ghost use Rattle.frame.specs.Counts.{counts};
@@ -8,7 +9,7 @@ ghost use Rattle.totals.specs.Files.{totals_of, pixels_of};
 use reading::{Calibration, Reading};
 
 // How many counts read as each kind.
-#[derive(Drop)]
+#[derive(Clone, Copy)]
 pub struct Totals {
     pub radiance: u64,
     pub error: u64,
@@ -32,7 +33,7 @@ fn limit_of(bits: u16) -> u16
     if bits < 16 { 1u16 << bits } else { 65534 }
 }
 
-#[derive(Drop)]
+#[derive(Clone, Copy)]
 struct Four {
     error: u16,
     outside: u16,
@@ -78,7 +79,7 @@ fn sort_bytes(buffer: &mut [u16], src: &[u8], order: u8, limit: u16) -> Four
     sort_piece(buffer, limit)
 }
 
-#[derive(Drop)]
+#[derive(Clone, Copy)]
 struct Many {
     error: u64,
     outside: u64,
