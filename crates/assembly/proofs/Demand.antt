@@ -22,7 +22,7 @@ use Rattle.frame.specs.Counts.{counts_of}
 use Rattle.frame.specs.Records.{marked, none_above}
 use Rattle.frame.specs.Frames.{unwritten}
 use Rattle.frame.specs.Lines.{line_good, line_of}
-use Rattle.assembly.specs.History.{File, held_after, answer, answers, is_fine, placed, bears, came, bearers, Apart, Agree, alone, empty, segment, Source, line_in, within_of}
+use Rattle.assembly.specs.History.{File, held_after, answers, is_fine, placed, bears, came, bearers, Apart, Agree, alone, empty, segment, Source, line_in, within_of}
 use Rattle.assembly.proofs.Joined.{joined_ext, joined_part}
 use Rattle.assembly.proofs.Order.{settle, sizes_lines, closed, answered, frame_length, segment_length, marks_none, marks_marked, bears_is}
 

@@ -60,7 +60,7 @@ module _ {A : Type 0} where
             q,
             ← joined_length z g n e,
             eq-eqb (suc n) (suc n) refl,
-            ← joined_ext g (with g (suc n) v) n (λ j a b. rw (ne_eqb (suc n) j (λ x. omega arith))),
+            ← joined_ext g (with g (suc k) v) n (λ j a b. rw (ne_eqb (suc k) j (λ x. omega arith))),
           )
           (put_right (joined g n) (g (suc n)) v (l ∙ ap (λ (i : ℕ). z (suc i)) q ∙ sym (e (suc n))))
 

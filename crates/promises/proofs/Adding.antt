@@ -1,16 +1,9 @@
 -- Laws for Night: from the definitions of `totals` and `night` to document 02's words, of one call and of all.
 -- Assumes nothing.
-use Prim.Native.Nat.{ℕ, zero, suc, ◌+◌, ◌*◌, ◌-◌, ◌≤◌, ◌<◌}
-use mathlib.Core.Path.{◌≡◌, refl, sym, ap, subst, ◌∙◌}
-use mathlib.Core.Bool.{Bool, true, false, cond, false≢true}
-use mathlib.Core.List.{List, [], ◌∷◌}
-use mathlib.Core.Logic.{◌⊎◌, inl, inr, ⊎_elim}
-use native.Mathlib.Omega.{arith}
-use borrow.Author.Tests.{eqb-true, eqb-false, ne_eqb, lt-ltb, le-ltb, ltb-true, ltb-false, leb-true, leb-false}
-use lib.Dec.{eqb, leb, ltb}
-use lib.IntN.{ℤ, pos, ◌-ℤ◌}
-use lib.ListN.{length, get_or, set, length-set, get_or-replicate}
-use lib.Seq.{get_or-set_same, get_or-set_other}
+use Rattle.std.proofs.Common.{ℕ, zero, suc, ◌+◌, ◌*◌, ◌-◌, ◌≤◌, ◌<◌, ◌≡◌, refl, sym, ap, subst, ◌∙◌, Bool, true, false, cond, List, [], ◌∷◌, ◌⊎◌, inl, inr, ⊎_elim, arith, eqb-true, ne_eqb, lt-ltb, le-ltb, ltb-true, ltb-false, leb-true, leb-false, eqb, leb, ltb, ℤ, pos, ◌-ℤ◌, length, get_or, set, length-set, get_or-set_same, get_or-set_other}
+use Rattle.std.proofs.Math.Bool.{false≢true}
+use Rattle.std.proofs.Math.ListN.{get_or-replicate}
+use borrow.Author.Tests.{eqb-false}
 use Rattle.rules.specs.Rules.{turned, Ruling, fine, refused, judge}
 use Rattle.header.specs.Entries.{entries_of}
 use Rattle.accept.specs.Checks.{checks}

@@ -1,16 +1,9 @@
 -- The P cases of document 01. Assumes nothing.
-use mathlib.Core.Path.{◌≡◌, refl, ap, ◌∙◌}
-use mathlib.Core.Bool.{Bool, true, false, ◌&&◌}
-use mathlib.Core.List.{List, [], ◌∷◌}
-use Prim.Native.Nat.{ℕ, ◌+◌}
-use native.Mathlib.Omega.{arith}
-use lib.Dec.{leb}
-use lib.IntN.{ℤ}
-use lib.Ieee.{Float, add, mul, of_int}
-use lib.ListN.{length, get_or}
+use Rattle.std.proofs.Common.{◌≡◌, refl, ap, ◌∙◌, Bool, true, false, ◌&&◌, List, [], ◌∷◌, ℕ, arith, leb, ℤ, Float, get_or}
+use lib.Ieee.{add, mul, of_int}
 use Rattle.wire.specs.Wire.{span, eqs}
 use Rattle.wire.proofs.Pieces.{span_span}
-use Rattle.rules.specs.Rules.{Turned, turned, fine, refused, judge, First, here, tables, placeless, checked, Reply, refuses, reply}
+use Rattle.rules.specs.Rules.{turned, fine, refused, judge, First, here, tables, placeless, checked, Reply, refuses, reply}
 use Rattle.rules.proofs.Judge.{exactly, each_is, holds, first_fails, first_table, judge_unplaced}
 use Rattle.calendar.specs.Dates.{day_of}
 use Rattle.calendar.specs.Shots.{slot_at, shot, shots, slot_of, film_frame_of}
@@ -23,7 +16,6 @@ use Rattle.header.specs.declared.Block5.{Block5}
 use Rattle.header.specs.declared.Block7.{Block7}
 use Rattle.header.specs.Places.{order_of, a_of, b_of, c_of, header_length, length_of, data_length}
 use Rattle.header.specs.Values.{block1_of, block2_of, block5_of, block7_of}
-use Rattle.header.specs.Encode.{Entries}
 use Rattle.accept.specs.Checks.{sums, names, ends, blocks1to4, blocks5to7, blocks8to11, whole, checks}
 use Rattle.accept.specs.Answers.{answer_of}
 use Rattle.writer.specs.Given.{lengths8, given}

@@ -1,10 +1,5 @@
 -- Ask 7: everything about a frame's lines goes by the N heights of its slate. Assumes nothing.
-use mathlib.Core.Path.{◌≡◌, sym, ◌∙◌}
-use mathlib.Core.Logic.{◌↔◌}
-use mathlib.Core.Bool.{true, ◌&&◌}
-use Prim.Native.Nat.{ℕ, ◌*◌, ◌-◌, ◌≤◌}
-use borrow.Author.Tests.{leb-true, le-leb}
-use lib.Dec.{leb}
+use Rattle.std.proofs.Common.{◌≡◌, sym, ◌∙◌, ◌↔◌, true, ◌&&◌, ℕ, ◌*◌, ◌-◌, ◌≤◌, leb-true, le-leb, leb}
 use Rattle.slate.specs.declared.Slate.{Slate}
 use Rattle.slate.specs.Cut.{cover_of}
 use Rattle.slate.specs.Slates.{good_slate, frame_lines, has_line, cover_or_0}

@@ -2,13 +2,7 @@
 -- byte, count, mark and number stays as it was. Each theorem is of a function's own answers: `Post` is its contract as the source has it.
 -- That every input has one answer is the contracts' having no `requires`, and OneAnswer.
 -- Assumes nothing.
-use mathlib.Core.Path.{◌≡◌, refl, sym, ap, ◌∙◌}
-use mathlib.Core.Bool.{Bool, true, false, cond}
-use mathlib.Core.List.{List, [], ◌∷◌}
-use Prim.Native.Nat.{ℕ, ◌+◌, ◌*◌, ◌≤◌}
-use native.Mathlib.Omega.{arith}
-use lib.ListN.{length, get_or}
-use lib.IntN.{pos}
+use Rattle.std.proofs.Common.{◌≡◌, refl, sym, ap, ◌∙◌, Bool, true, false, cond, List, [], ◌∷◌, ℕ, ◌+◌, ◌*◌, ◌≤◌, arith, length, get_or, pos}
 use Rattle.rules.specs.Rules.{Turned, turned, Row, fine, says, refused, refuses, judge, tables, unplaced, paper}
 use Rattle.calendar.specs.Dates.{real, day_at, paper_day, day_of}
 use Rattle.calendar.specs.Shots.{shot, paper_slot, slot_of, shots, paper_frame, film_frame_of}

@@ -1,10 +1,6 @@
 -- Demand 2. `s` is a string of bytes; the words stand in specs/ of tiling (Made, Lawful), header (Encode, Values, Entries) and writer (Given).
 -- Assumes nothing.
-use mathlib.Core.Path.{◌≡◌, refl, sym, ap, ◌∙◌}
-use mathlib.Core.Logic.{◌↔◌}
-use mathlib.Core.List.{List, [], ◌∷◌, ◌++◌}
-use Prim.Native.Nat.{ℕ, ◌≤◌}
-use lib.ListN.{length, take, drop}
+use Rattle.std.proofs.Common.{◌≡◌, refl, sym, ap, ◌∙◌, ◌↔◌, List, [], ◌∷◌, ◌++◌, ℕ, ◌≤◌, length, take, drop}
 use Rattle.wire.specs.Wire.{Bytes}
 use Rattle.rules.specs.Rules.{fine, judge, paper, says}
 use Rattle.rules.proofs.Judge.{said}

@@ -1,12 +1,8 @@
 -- Demand 3: a frame opened for a good slate and offered files in any order. `Ran` says that the calls were made: of `open` over a strip of
 -- the slate's size, then of `offer`, each with that same slate, the newest record and the frame as the call before left it.
 -- Assumes nothing.
-use mathlib.Core.Path.{◌≡◌}
-use mathlib.Core.Bool.{true, false}
-use mathlib.Core.List.{List, Memᴰ, Permᴰ}
-use Prim.Native.Nat.{ℕ, ◌≤◌}
-use lib.ListN.{length, take, replicate}
-use mathlib.Core.Logic.{◌↔◌}
+use Rattle.std.proofs.Common.{◌≡◌, true, false, List, ℕ, ◌≤◌, length, take, replicate, ◌↔◌}
+use mathlib.Core.List.{Memᴰ, Permᴰ}
 use Rattle.rules.specs.Rules.{Turned, fine, refused, judge, paper}
 use Rattle.accept.specs.Checks.{checks}
 use Rattle.accept.specs.Answers.{facts_of}

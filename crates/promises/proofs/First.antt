@@ -1,9 +1,6 @@
 -- The first check that fails answers: a function refuses exactly where a row of its table fails, and says what the first such row shows.
 -- Each theorem is of the function's own answers, whatever call gave them. Assumes nothing.
-use mathlib.Core.Path.{◌≡◌, sym, ◌∙◌}
-use mathlib.Core.Logic.{◌↔◌}
-use mathlib.Core.List.{List, [], ◌∷◌}
-use lib.ListN.{length}
+use Rattle.std.proofs.Common.{◌≡◌, sym, ◌∙◌, ◌↔◌, List, [], ◌∷◌, length}
 use Rattle.rules.specs.Rules.{Turned, Row, Ruling, fine, refused, refuses, judge, First, tables, paper, Reply, reply}
 use Rattle.rules.proofs.Judge.{first_fails, turned_away}
 use Rattle.calendar.specs.Shots.{shot, paper_slot, slot_of, shots, paper_frame, film_frame_of}

@@ -1,10 +1,7 @@
 -- The plain functions of C say what the library's own say, in the paper's numbers: kinds of reading from 0 in its order, 0 for no refusal.
 -- Each theorem is of calls with the same numbers. Assumes nothing.
-use mathlib.Core.Path.{◌≡◌, refl, sym, ap, ◌∙◌}
-use mathlib.Core.Bool.{false}
+use Rattle.std.proofs.Common.{◌≡◌, refl, sym, ap, ◌∙◌, false, ℕ, pos}
 use mathlib.Core.List.{Memᴰ}
-use Prim.Native.Nat.{ℕ}
-use lib.IntN.{pos}
 use lib.Ieee.{fin}
 use Rattle.rules.specs.Rules.{number_of}
 use Rattle.calendar.specs.Dates.{paper_day, day_of}

@@ -1,15 +1,9 @@
 -- Laws for Night: what a call of `add` comes to by its definitions. A run that is full keeps all and says RUN; else the file's own checks answer, and
 -- the run grows by them.
 -- Assumes nothing.
-use mathlib.Core.Path.{◌≡◌, refl, sym, ap, ◌∙◌}
-use mathlib.Core.Bool.{Bool, true, false, not, ◌&&◌, false≢true, and-eq-true_iff}
-use mathlib.Core.List.{List, [], ◌∷◌, ◌++◌, append-nil}
-use Prim.Native.Nat.{ℕ, zero, suc, ◌+◌, ◌<◌, ◌≤◌}
-use native.Mathlib.Omega.{arith}
-use borrow.Author.Tests.{eq-eqb, ne_eqb, lt-leb, le-ltb}
-use lib.Dec.{eqb}
-use lib.IntN.{pos}
-use lib.ListN.{get_or, set}
+use Rattle.std.proofs.Common.{◌≡◌, refl, sym, ap, ◌∙◌, Bool, true, false, not, ◌&&◌, List, [], ◌∷◌, ◌++◌, append-nil, ℕ, zero, suc, ◌+◌, ◌<◌, ◌≤◌, arith, eq-eqb, ne_eqb, le-ltb, eqb, pos, get_or, set}
+use Rattle.std.proofs.Math.Bool.{false≢true, and-eq-true_iff}
+use borrow.Author.Tests.{lt-leb}
 use Rattle.rules.specs.Rules.{Row, test, turned, fine, refused, checked, judge, tables, after}
 use Rattle.rules.proofs.Judge.{judge_refused}
 use Rattle.accept.specs.Checks.{shape, entries, shape1, fields1, fixed2, fields2, fixed5, fields5, fields7, sums, names, ends, blocks1to4, blocks5to7, blocks8to11, whole, checks}

@@ -1,11 +1,5 @@
 -- Laws of heights: the functions' words for the cut of a slate are document 02's. Assumes nothing.
-use mathlib.Core.Path.{◌≡◌, refl, sym, subst, ◌∙◌}
-use mathlib.Core.Logic.{◌↔◌, ⊎_elim}
-use mathlib.Core.Bool.{true}
-use Prim.Native.Nat.{ℕ, zero, suc, ◌+◌, ◌*◌, ◌-◌, ◌≤◌}
-use native.Mathlib.Nat.{add_comm, eq-or-lt_of_le, le_of_suc-le-suc}
-use native.Mathlib.Omega.{arith}
-use borrow.Author.Tests.{leb-true, le-leb}
+use Rattle.std.proofs.Common.{◌≡◌, refl, sym, subst, ◌∙◌, ◌↔◌, ⊎_elim, true, ℕ, zero, suc, ◌+◌, ◌*◌, ◌-◌, ◌≤◌, add_comm, eq-or-lt_of_le, le_of_suc-le-suc, arith, leb-true, le-leb}
 use Rattle.slate.specs.declared.Slate.{Slate}
 use Rattle.slate.specs.Cut.{height_in, height_of, lines_to, all_tall}
 use Rattle.slate.specs.Slates.{frame_size}

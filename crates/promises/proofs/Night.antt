@@ -1,11 +1,7 @@
 -- Ask 5, night totals, in the words of specs/Night: what a call says and leaves, whatever run is posed (`Adds`), and what a run holds after any calls
 -- from the empty one (`Night`). Each theorem is of the functions' own answers: `Post` is a function's contract as its source has it.
 -- Assumes nothing.
-use Prim.Native.Nat.{ℕ, ◌≤◌, ◌<◌}
-use mathlib.Core.Path.{◌≡◌, refl, sym, ap, subst, ◌∙◌}
-use mathlib.Core.List.{List}
-use lib.IntN.{pos}
-use native.Mathlib.Omega.{arith}
+use Rattle.std.proofs.Common.{ℕ, ◌≤◌, ◌<◌, ◌≡◌, refl, sym, ap, subst, ◌∙◌, List, pos, arith}
 use Rattle.rules.specs.Rules.{turned, Ruling, fine, refused, paper}
 use Rattle.accept.specs.Answers.{facts_of}
 use Rattle.reading.specs.declared.Reading.{Reading}

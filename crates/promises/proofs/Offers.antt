@@ -1,14 +1,8 @@
 -- Laws of what an offer answers of a good slate and an accepted file. Assumes nothing.
-use mathlib.Core.Path.{◌≡◌, refl, sym, ap, ◌∙◌}
-use mathlib.Core.Bool.{Bool, true, false, not}
-use mathlib.Core.List.{List, [], ◌∷◌, ◌++◌}
-use Prim.Native.Nat.{ℕ, zero, suc, ◌+◌, ◌*◌, ◌-◌, ◌≤◌, ◌<◌}
-use native.Mathlib.Omega.{arith}
-use lib.Dec.{eqb}
-use lib.ListN.{length, get_or, replicate, length-replicate, get_or-replicate}
-use borrow.Author.Tests.{eq-eqb, le-leb}
+use Rattle.std.proofs.Common.{◌≡◌, refl, sym, ap, ◌∙◌, Bool, true, false, not, List, [], ◌∷◌, ◌++◌, ℕ, zero, suc, ◌+◌, ◌*◌, ◌-◌, ◌≤◌, ◌<◌, arith, eqb, length, get_or, replicate, eq-eqb, le-leb}
+use Rattle.std.proofs.Math.ListN.{length-replicate, get_or-replicate}
 use base.Fml.{Lft}
-use denote.Ref.{Bor}
+use denote.Ref.{Bor, MutBor}
 use Rattle.rules.specs.Rules.{turned, Row, row, Ruling, fine, refused, judge, checked, tables, paper}
 use Rattle.rules.specs.declared.Verdict.TheVariants as verdicts
 use Rattle.rules.specs.declared.Why.TheVariants.{OtherShot}
@@ -86,8 +80,8 @@ so true h = refl
 so false h = absurd (h refl)
 
 -- An offer to a frame that was just opened: an empty record and a strip of the slate's size, which lies apart from the file.
-abbrev fresh : Slate → Bor (List ℕ) → Slate × (Record × (Bor (List ℕ) × (Bor (List ℕ) × Unit {0})))
-fresh s file = (s, (record { marks = no_marks }, (record { ref_ptr = (suc file.ptr.0, 0); ghost_name = suc file.name; now = replicate (frame_size s) 65534 }, (file, tt))))
+abbrev fresh : Slate → Bor (List ℕ) → Slate × (Record × (MutBor (List ℕ) × (Bor (List ℕ) × Unit {0})))
+fresh s file = (s, (record { marks = no_marks }, (record { ref_ptr = (suc file.ref_ptr.0, 0); ghost_name = 0; now = replicate (frame_size s) 65534 }, (file, tt))))
 
 abbrev told : Held
 told = record { verdict = verdicts.Refused (record { why = OtherShot; block = 0; offset = 0 }); rec = record { marks = no_marks } }
@@ -133,12 +127,12 @@ module _ (s : HsdSlate) (f : List ℕ) (g : Good (slate_from s)) (ok : Accepted 
       ∙ other (slate_from s) f g ok (marks_in m) size h (none_above_c m s.total g.parts.most_total w.above) (size_is (slate_from s) w.frame)
 
 -- an offer to a frame that was just opened
-abbrev fresh_c : HsdSlate → Bor (List ℕ) → HsdSlate × (Bor (List ℕ) × (Bor (List ℕ) × (Bor (List ℕ) × Unit {0})))
+abbrev fresh_c : HsdSlate → Bor (List ℕ) → HsdSlate × (MutBor (List ℕ) × (MutBor (List ℕ) × (Bor (List ℕ) × Unit {0})))
 fresh_c s file = (
   s,
   (
-    record { ref_ptr = (suc file.ptr.0, 0); ghost_name = suc file.name; now = replicate 99 0 },
-    (record { ref_ptr = (suc (suc file.ptr.0), 0); ghost_name = suc (suc file.name); now = replicate (frame_size (slate_from s)) 65534 }, (file, tt)),
+    record { ref_ptr = (suc file.ref_ptr.0, 0); ghost_name = 0; now = replicate 99 0 },
+    (record { ref_ptr = (suc (suc file.ref_ptr.0), 0); ghost_name = 1; now = replicate (frame_size (slate_from s)) 65534 }, (file, tt)),
   ),
 )
 

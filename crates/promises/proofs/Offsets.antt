@@ -4,16 +4,8 @@ use Rattle.night.specs.Runs as nights
 use Rattle.night.proofs.add.Reads as add
 use Rattle.plugin_night.specs.Night.{run_in}
 use Rattle.plugin_night.proofs.hsd_night_add.Reads as hsd_night_add
-use mathlib.Core.Path.{◌≡◌, refl, sym, ap, ◌∙◌}
-use mathlib.Core.Bool.{Bool, true, false, ◌&&◌, and-eq-true_iff}
-use mathlib.Core.List.{List, [], ◌∷◌, ◌++◌}
-use mathlib.Core.Logic.{◌↔◌}
-use Prim.Native.Nat.{ℕ, ◌≤◌}
-use native.Mathlib.Omega.{arith}
-use lib.ListN.{length, take, drop}
-use lib.Seq.{take_at}
-use lib.Dec.{eqb}
-use borrow.Author.Tests.{eqb-true, le-ltb}
+use Rattle.std.proofs.Common.{◌≡◌, refl, sym, ap, ◌∙◌, Bool, true, false, ◌&&◌, List, [], ◌∷◌, ◌++◌, ◌↔◌, ℕ, ◌≤◌, arith, length, take, drop, take_at, eqb, eqb-true, le-ltb}
+use Rattle.std.proofs.Math.Bool.{and-eq-true_iff}
 use Rattle.wire.specs.Wire.{join}
 use Rattle.rules.specs.Rules.{Turned, turned, Row, test, Ruling, fine, refused, judge, checked, First, here, later, tables, unplaced, paper, refuses, reply}
 use Rattle.rules.proofs.Judge.{first_fails, turned_away}
@@ -109,11 +101,18 @@ abbrev nowhere : List Row → Bool
 nowhere [] = true
 nowhere (test ok (turned n b p) ∷ rs) = (eqb b 0 && eqb p 0) && nowhere rs
 
-zeros : {rs : List Row} {n b p : ℕ} → nowhere rs ≡ true → First rs (turned n b p) → (b ≡ 0) × (p ≡ 0)
-zeros {n = n} {b = b} {p = p} h (here {rs = rs} e) =
+-- block 0 at offset 0
+abbrev AtNone : Turned → Type 0
+AtNone (turned n b p) = (b ≡ 0) × (p ≡ 0)
+
+shows_none : {rs : List Row} {u : Turned} → nowhere rs ≡ true → First rs u → AtNone u
+shows_none h (here {u = turned n b p} {rs = rs} e) =
     let k = (and-eq-true_iff (eqb b 0) (eqb p 0)).0 ((and-eq-true_iff (eqb b 0 && eqb p 0) (nowhere rs)).0 h).0 in
     (eqb-true b 0 k.0, eqb-true p 0 k.1)
-zeros h (later {t = turned m c q} {rs = rs} e f) = zeros ((and-eq-true_iff (eqb c 0 && eqb q 0) (nowhere rs)).0 h).1 f
+shows_none h (later {t = turned m c q} {rs = rs} e f) = shows_none ((and-eq-true_iff (eqb c 0 && eqb q 0) (nowhere rs)).0 h).1 f
+
+zeros : {rs : List Row} {n b p : ℕ} → nowhere rs ≡ true → First rs (turned n b p) → (b ≡ 0) × (p ≡ 0)
+zeros h f = shows_none h f
 
 none_of : (fs : List File) (rs : List Row) (u : Turned) → nowhere rs ≡ true → First rs u → Concerns fs u
 none_of fs rs (turned n b p) h f = let z = zeros h f in rw (z.0, z.1) none

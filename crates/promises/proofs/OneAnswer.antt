@@ -1,6 +1,6 @@
 -- No second answer fits the contract of a public function, and none leaves other bytes in lent memory.
 -- `Post` is the contract as the source has it. Assumes nothing.
-use mathlib.Core.Path.{sym, ◌∙◌}
+use Rattle.std.proofs.Common.{sym, ◌∙◌}
 use Rattle.promises.specs.Answers.{One}
 use Rattle.rules.proofs.Paper.{paper_one}
 use Rattle.calendar.proofs.Paper.{paper_day_one, paper_slot_one, paper_frame_one}

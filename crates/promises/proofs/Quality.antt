@@ -1,12 +1,6 @@
 -- Quality flag 1: with its top bit set the other seven marks are not known, with it clear they stand as before; for C in its numbers.
 -- Assumes nothing; a byte is given by its bits, and every byte has them (`every_byte`).
-use Prim.Native.Nat.{ℕ, zero, suc, ◌+◌, ◌*◌, ◌/◌, ◌%◌, ◌≤◌}
-use mathlib.Core.Path.{◌≡◌, refl, sym, ap, ◌∙◌}
-use mathlib.Core.Bool.{Bool, true, false, cond}
-use mathlib.Core.List.{List}
-use lib.Dec.{eqb}
-use native.Mathlib.Omega.{arith}
-use borrow.Author.Tests.{ne_eqb}
+use Rattle.std.proofs.Common.{ℕ, zero, suc, ◌+◌, ◌*◌, ◌/◌, ◌%◌, ◌≤◌, ◌≡◌, refl, sym, ap, ◌∙◌, Bool, true, false, cond, List, eqb, arith, ne_eqb}
 use Rattle.wire.specs.Wire.{Bytes}
 use Rattle.rules.specs.declared.Verdict.{Verdict}
 use Rattle.header.specs.declared.Header.{Header}

@@ -1,13 +1,8 @@
 -- Laws of what is said: the first disagreement of a list of parts, and the refusals before it.
 -- Assumes nothing.
-use mathlib.Core.Path.{◌≡◌, refl, sym, ap, subst, ◌∙◌}
-use mathlib.Core.Bool.{Bool, true, false, cond}
-use mathlib.Core.List.{List, [], ◌∷◌}
-use Prim.Native.Nat.{ℕ}
-use native.Mathlib.Omega.{arith}
-use lib.Dec.{eqb}
-use borrow.Author.Tests.{eqb-true, eqb-false, eq-eqb, ne_eqb}
-use Rattle.rules.specs.Rules.{turned, fine, judge, here, Reply, says, refuses, reply}
+use Rattle.std.proofs.Common.{◌≡◌, refl, sym, ap, subst, ◌∙◌, Bool, true, false, cond, List, [], ◌∷◌, ℕ, arith, eqb, eqb-true, eq-eqb, ne_eqb}
+use borrow.Author.Tests.{eqb-false}
+use Rattle.rules.specs.Rules.{turned, fine, judge, Reply, says, refuses, reply}
 use Rattle.rules.proofs.Judge.{said}
 use Rattle.accept.specs.declared.Facts.{Facts}
 use Rattle.accept.specs.Answers.{facts_of}

@@ -1,15 +1,8 @@
 -- What is said of reels and written as them, in document 02's words: laws of the definitions that the contracts cite.
 -- Assumes nothing.
-use mathlib.Core.Path.{◌≡◌, refl, sym, ap, subst, ◌∙◌}
-use mathlib.Core.Bool.{Bool, true, false, ◌&&◌, and-eq-true_iff}
-use mathlib.Core.List.{List, [], ◌∷◌, ◌++◌, map}
-use Prim.Native.Nat.{ℕ, ◌+◌, ◌-◌, ◌≤◌, ◌<◌}
-use native.Mathlib.Nat.{zero-add}
-use native.Mathlib.Omega.{arith}
-use borrow.Author.Tests.{le-leb, lt-leb, leb-true}
-use lib.Dec.{leb}
-use lib.ListN.{length, get_or, take, drop, length-append}
-use lib.Seq.{take_at, drop_at, drop-drop}
+use Rattle.std.proofs.Common.{◌≡◌, refl, sym, ap, subst, ◌∙◌, Bool, true, false, ◌&&◌, List, [], ◌∷◌, ◌++◌, map, ℕ, ◌+◌, ◌-◌, ◌≤◌, ◌<◌, zero-add, arith, le-leb, leb-true, leb, length, get_or, take, drop, length-append, take_at, drop_at, drop-drop}
+use Rattle.std.proofs.Math.Bool.{and-eq-true_iff}
+use borrow.Author.Tests.{lt-leb}
 use Rattle.wire.specs.Wire.{Bytes, eqs, join}
 use Rattle.wire.proofs.Pieces.{num_span_lt}
 use Rattle.rules.specs.Rules.{Turned, turned, Ruling, fine, refused, row, checked, judge, tables, Reply, says, refuses, reply, after}

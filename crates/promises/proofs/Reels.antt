@@ -2,12 +2,7 @@
 -- string and list. Each theorem is of the functions' own answers: `Post` is a function's contract as its source has it. `Bytes` is the bound of the
 -- slices' type.
 -- Assumes nothing.
-use mathlib.Core.Path.{◌≡◌, refl, sym, ap, subst, ◌∙◌}
-use mathlib.Core.Bool.{true}
-use mathlib.Core.List.{List, [], ◌∷◌, ◌++◌, append-nil, map}
-use Prim.Native.Nat.{ℕ, ◌+◌, ◌-◌, ◌≤◌, ◌<◌}
-use native.Mathlib.Omega.{arith}
-use lib.ListN.{length, get_or, take, drop, length-append}
+use Rattle.std.proofs.Common.{◌≡◌, refl, sym, ap, subst, ◌∙◌, true, List, [], ◌∷◌, ◌++◌, append-nil, map, ℕ, ◌+◌, ◌-◌, ◌≤◌, ◌<◌, arith, length, get_or, take, drop, length-append}
 use Rattle.wire.specs.Wire.{Bytes, digits, lows, join}
 use Rattle.rules.specs.Rules.{Turned, turned, paper, fine, refused, judge, Reply, says, refuses}
 use Rattle.rules.specs.declared.Verdict.TheVariants.{Fine}

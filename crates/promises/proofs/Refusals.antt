@@ -1,16 +1,9 @@
 -- Laws of refusals: they are the paper's table's, and what is lent stays as it was.
 -- Assumes nothing.
-use mathlib.Core.Path.{◌≡◌, refl, sym, ap, ◌∙◌}
-use mathlib.Core.Bool.{Bool, true, false, not, cond, ◌&&◌, ◌||◌, and-eq-true_iff, or-true}
-use mathlib.Core.List.{List, [], ◌∷◌, ◌++◌}
-use Prim.Native.Nat.{ℕ}
-use native.Mathlib.Omega.{arith}
+use Rattle.std.proofs.Common.{◌≡◌, refl, sym, ap, ◌∙◌, Bool, true, false, not, cond, ◌&&◌, ◌||◌, List, [], ◌∷◌, ◌++◌, ℕ, arith, eqb, leb, eqb-true, length, drop, ℤ, pos}
+use Rattle.std.proofs.Math.Bool.{and-eq-true_iff, or-true}
 use Rattle.rules.specs.Rules.{Turned, turned, Row, test, Ruling, fine, refused, judge, checked, after, Reply, says, refuses, reply}
 use Rattle.rules.proofs.Judge.{judge_refused, turned_away}
-use lib.Dec.{eqb, leb}
-use borrow.Author.Tests.{eqb-true}
-use lib.ListN.{length, drop}
-use lib.IntN.{ℤ, pos}
 use Rattle.accept.specs.declared.Facts.{Facts}
 use Rattle.plugin.specs.declared.HsdFile.{HsdFile}
 use Rattle.plugin.specs.declared.HsdFrameNumber.{HsdFrameNumber}

@@ -1,12 +1,5 @@
 -- Ask 7: a slate is made of its N heights, and what stands beyond the Nth changes no answer. Assumes nothing.
-use mathlib.Core.Path.{◌≡◌, refl, sym, ap, subst, ◌∙◌}
-use mathlib.Core.Bool.{Bool, true, false, cond}
-use mathlib.Core.List.{List, [], ◌∷◌}
-use Prim.Native.Nat.{ℕ, ◌-◌, ◌≤◌}
-use native.Mathlib.Omega.{arith}
-use borrow.Author.Tests.{le-leb, ltb-true, lt-ltb}
-use lib.Dec.{ltb}
-use lib.ListN.{length, get_or}
+use Rattle.std.proofs.Common.{◌≡◌, refl, sym, ap, subst, ◌∙◌, Bool, true, false, cond, List, [], ◌∷◌, ℕ, ◌-◌, ◌≤◌, arith, le-leb, ltb-true, lt-ltb, ltb, length, get_or}
 use Rattle.wire.specs.Wire.{tab}
 use Rattle.wire.proofs.Rows.{get_or_tab}
 use Rattle.rules.specs.Rules.{turned, Ruling, fine, refused, judge, here, after, tables, paper}

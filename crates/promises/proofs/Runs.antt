@@ -1,13 +1,10 @@
 -- A run of C's calls is a run of the library's. Assumes nothing.
-use mathlib.Core.Path.{◌≡◌, refl, sym, ap, ◌∙◌}
-use mathlib.Core.Bool.{Bool, true, false, and-eq-true_iff}
-use mathlib.Core.List.{List, [], ◌∷◌, ◌++◌, map, Memᴰ, Permᴰ}
-use Prim.Native.Nat.{ℕ, zero, suc, ◌≤◌, ◌<◌}
-use native.Mathlib.Omega.{arith}
-use lib.ListN.{length, get_or, drop, length-replicate, length-set, get_or-append, replicate}
-use lib.Seq.{ext_get_or, get_or_at}
-use lib.Dec.{eqb}
-use borrow.Author.Tests.{le-leb, eq-eqb, eqb-true, eqb-false}
+use Rattle.std.proofs.Common.{◌≡◌, refl, sym, ap, ◌∙◌, Bool, true, false, List, [], ◌∷◌, ◌++◌, map, ℕ, zero, suc, ◌≤◌, ◌<◌, arith, length, get_or, drop, length-set, replicate, ext_get_or, eqb, le-leb, eq-eqb, eqb-true}
+use Rattle.std.proofs.Math.Bool.{and-eq-true_iff}
+use Rattle.std.proofs.Math.ListN.{length-replicate, get_or-append}
+use Rattle.std.proofs.Math.Seq.{get_or_at}
+use mathlib.Core.List.{Memᴰ, Permᴰ}
+use borrow.Author.Tests.{eqb-false}
 use Rattle.wire.specs.Wire.{tab}
 use Rattle.wire.proofs.Rows.{length_tab, get_or_tab}
 use Rattle.rules.specs.Rules.{Ruling, Turned, turned, number_of, tables, fine, refused, paper, after}
@@ -253,7 +250,7 @@ copied {out = out} run (asked κ a r t p es em ef el ei eo) =
     let same : line_c a.0 m strip leader line ≡ part = rw good (ap (λ (k : List Bool). line_of (slate_from a.0) k strip leader line) back) in
     record {
       part = part;
-      came = library.asked (κ.0, tt) (slate_from a.0, (run.newest, (a.1.1.0, (a.1.1.1.0, (record { 0 = line }, tt))))) (record { ref_ptr = a.1.1.0.ptr; ghost_name = a.1.1.0.name; now = part })
+      came = library.asked (κ.0, tt) (slate_from a.0, (run.newest, (a.1.1.0, (a.1.1.1.0, (record { 0 = line }, tt))))) (record { ref_ptr = a.1.1.0.ref_ptr; now = part })
           (slate_from a.0, (run.newest, (a.1.1.0, (a.1.1.1.0, (record { 0 = line }, tt))))) refl (ap slate_from es) refl ef el ei;
       count = p.0 ∙ (λ i. copied_of (same i) (eo i));
       copy = p.1 ∙ (λ i. copy_of (same i) (eo i));

@@ -1,9 +1,6 @@
 -- SHORT is said where document 01 has it. Assumes nothing.
-use mathlib.Core.Path.{◌≡◌, refl, sym, ap, ◌∙◌}
-use mathlib.Core.List.{List, [], ◌∷◌, ◌++◌, append_assoc, append-nil}
-use Prim.Native.Nat.{ℕ, suc, ◌+◌, ◌-◌, ◌≤◌, ◌<◌}
-use borrow.Author.Tests.{lt-leb, le-leb, eq-eqb}
-use lib.ListN.{length, take, drop, get_or}
+use Rattle.std.proofs.Common.{◌≡◌, refl, ap, ◌∙◌, List, [], ◌∷◌, ◌++◌, append_assoc, append-nil, ℕ, ◌+◌, ◌-◌, ◌≤◌, ◌<◌, le-leb, eq-eqb, length, take, drop, get_or}
+use borrow.Author.Tests.{lt-leb}
 use Rattle.wire.specs.Wire.{span, num}
 use Rattle.rules.specs.Rules.{Row, Turned, turned, fine, refused, judge, First, here, later, tables, refuses, reply}
 use Rattle.rules.proofs.Judge.{exactly, each_is, first_fails, first_table}

@@ -1,8 +1,5 @@
 -- The facts of a file that is made are those of its values and entries. Assumes nothing.
-use mathlib.Core.Path.{◌≡◌, refl, sym, ap, ◌∙◌}
-use mathlib.Core.List.{List}
-use Prim.Native.Nat.{ℕ, ◌+◌}
-use lib.ListN.{length}
+use Rattle.std.proofs.Common.{◌≡◌, refl, sym, ap, ◌∙◌, List, ℕ, ◌+◌, length}
 use Rattle.wire.specs.Wire.{Bytes, num}
 use Rattle.rules.specs.Rules.{fine, judge, says, reply}
 use Rattle.rules.specs.declared.Verdict.{Verdict}

@@ -1,11 +1,7 @@
 -- Ask 6, why a file is not a segment of a slate's frame, in the words of specs/Why: what is said of any slate and any bytes (`Reasoned`), what that means (`Agreed`,
 -- `Differed`), and what an offer then answers (`Never`, `Always`). Each theorem is of the functions' own answers: `Post` is a function's contract as its source has it.
 -- Assumes nothing.
-use mathlib.Core.Path.{◌≡◌, refl, sym, ap, subst, ◌∙◌}
-use mathlib.Core.Logic.{◌↔◌}
-use mathlib.Core.List.{List}
-use Prim.Native.Nat.{ℕ}
-use lib.ListN.{length}
+use Rattle.std.proofs.Common.{◌≡◌, refl, sym, ap, subst, ◌∙◌, ◌↔◌, List, ℕ, length}
 use Rattle.rules.specs.Rules.{fine, judge, paper, says, reply}
 use Rattle.accept.specs.Answers.{facts_of}
 use Rattle.slate.specs.declared.Slate.{Slate}

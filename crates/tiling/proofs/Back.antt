@@ -2,13 +2,13 @@
 -- Assumes nothing.
 use mathlib.Core.Path.{◌≡◌, refl, ap, ◌∙◌}
 use mathlib.Core.List.{List, [], ◌∷◌, ◌++◌}
-use Prim.Native.Nat.{ℕ, ◌+◌, ◌*◌, ◌-◌, ◌≤◌, ◌<◌}
+use Prim.Native.Nat.{ℕ, ◌+◌, ◌*◌, ◌≤◌, ◌<◌}
 use native.Mathlib.Omega.{arith}
 use lib.ListN.{length, get_or, drop}
-use Rattle.wire.specs.Wire.{Bytes, span, num, rows, tab}
+use Rattle.wire.specs.Wire.{Bytes, span, num}
 use Rattle.wire.proofs.Rows.{length_tab, get_or_tab, rows_span}
 use Rattle.wire.proofs.Pieces.{part, end, parts_join, span_front, digits_span}
-use Rattle.header.specs.Places.{order_of, a_of, b_of, c_of, at9, at10, at11, header_length, length_of}
+use Rattle.header.specs.Places.{order_of, a_of, b_of, c_of, at9, at10, at11, length_of}
 use Rattle.header.specs.Values.{block1_of, block2_of, block5_of, block7_of, block8_of, header_of}
 use Rattle.header.specs.Encode.{bytes1, bytes2, carrying, bytes5, bytes7, entry8, entry9, entry10, bytes8, bytes9, bytes10, front_blocks, back_blocks, blocks_of, encode}
 use Rattle.header.specs.Entries.{column, entries_of}

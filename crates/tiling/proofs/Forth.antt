@@ -1,8 +1,8 @@
 -- The encoding of good values and entries, and then counts of the right length, is accepted, and reads back.
 -- Assumes nothing.
-use mathlib.Core.Path.{◌≡◌, refl, sym, ap, ◌∙◌}
-use mathlib.Core.List.{List, [], ◌∷◌, ◌++◌, append_assoc, append-nil}
-use Prim.Native.Nat.{ℕ, ◌+◌, ◌*◌, ◌^◌, ◌-◌, ◌≤◌, ◌<◌}
+use mathlib.Core.Path.{◌≡◌, refl, ap, ◌∙◌}
+use mathlib.Core.List.{List, [], ◌∷◌, ◌++◌}
+use Prim.Native.Nat.{ℕ, ◌+◌, ◌*◌, ◌^◌, ◌≤◌, ◌<◌}
 use native.Mathlib.Nat.{mul-le-mul}
 use native.Mathlib.Omega.{arith}
 use lib.ListN.{length, get_or, length-append}
@@ -11,11 +11,10 @@ use Rattle.wire.proofs.Numbers.{length_digits}
 use Rattle.wire.proofs.Rows.{length_rows, tab_is}
 use Rattle.wire.proofs.Pieces.{Reads, reads, num_of}
 use Rattle.header.specs.declared.Header.{Header}
-use Rattle.header.specs.Places.{order_of, a_of, b_of, c_of, at9, at10, at11, header_length, length_of, data_length}
+use Rattle.header.specs.Places.{order_of, a_of, b_of, c_of, at9, at10, at11, header_length, data_length}
 use Rattle.header.specs.Values.{block1_of, block2_of, block5_of, block7_of, block8_of, header_of}
 use Rattle.header.specs.Entries.{column, entries_of}
 use Rattle.header.specs.Encode.{Entries, bytes1, bytes2, carrying, bytes5, bytes7, entry8, entry9, entry10, bytes8, bytes9, bytes10, front_blocks, back_blocks, blocks_of, encode}
-use Rattle.accept.specs.Checks.{fields1, fields2, fields5, fields7, names}
 use Rattle.writer.proofs.Good.{Good}
 use Rattle.tiling.specs.Made.{Fit, Numbers}
 use Rattle.accept.proofs.Tables.{Accepted}
