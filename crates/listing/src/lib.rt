@@ -1,3 +1,4 @@
+#![tactic(auto)]
 // The line that the listing prints of a file: every byte of it, stored at the front of a lent buffer.
 ghost use Rattle.std.specs.Prelude.{◌≡◌, ◌+◌, ◌≤◌};
 ghost use Rattle.wire.specs.Wire.{Stored};
@@ -151,7 +152,8 @@ fn put_answer(out: &mut [u8], a: Answer) -> usize
 pub fn line(file: &[u8], out: &mut [u8; 64]) -> usize
     ensures { Listed file.now out.old out.new result }
 {
-    if 65536 < file.len() {
+    let big = 65536 < file.len();
+    if big {
         wire::put(out, 0, b"BIG\n");
         return 4;
     }

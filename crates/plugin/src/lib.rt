@@ -1,3 +1,4 @@
+#![tactic(auto)]
 // What the compositors' plug-in calls from C, thin over the proved library.
 ghost use Rattle.std.specs.Prelude.{◌≡◌};
 ghost use Rattle.rules.specs.Rules.{paper};
@@ -17,7 +18,7 @@ use rules::Verdict;
 
 // refusal is 0 where nothing is wrong.
 #[repr(C)]
-#[derive(Drop)]
+#[derive(Clone, Copy)]
 pub struct HsdAnswer {
     pub refusal: u8,
     pub block: u8,
@@ -48,7 +49,7 @@ pub fn answer_of(v: Verdict) -> HsdAnswer
 
 // refusal, block and offset are 0 for an accepted file, and everything else is 0 for a refused one.
 #[repr(C)]
-#[derive(Drop)]
+#[derive(Clone, Copy)]
 pub struct HsdFile {
     pub refusal: u8,
     pub block: u8,
@@ -76,8 +77,7 @@ pub struct HsdFile {
     pub constant: f64,
 }
 
-#[unsafe(no_mangle)]
-pub extern "C" fn hsd_accept(file: &[u8]) -> HsdFile
+pub fn hsd_accept(file: &[u8]) -> HsdFile
     ensures { result ≡ shown_file (answer_of file.now) }
 {
     let answer = accept::accept(file);
@@ -141,14 +141,13 @@ fn refused(refusal: u8, block: u8, offset: u32) -> HsdFile
 
 // kind: 0 radiance, 1 error pixel, 2 outside, 3 over range, 4 uncalibrated. radiance is 0 for every kind but 0.
 #[repr(C)]
-#[derive(Drop)]
+#[derive(Clone, Copy)]
 pub struct HsdReading {
     pub radiance: f64,
     pub kind: u8,
 }
 
-#[unsafe(no_mangle)]
-pub extern "C" fn hsd_read_count(gain: f64, constant: f64, bits: u16, count: u16) -> HsdReading
+pub fn hsd_read_count(gain: f64, constant: f64, bits: u16, count: u16) -> HsdReading
     ensures { result ≡ shown_reading (reading_of (calibrated gain constant bits) count) }
 {
     let cal = Calibration {
@@ -170,8 +169,7 @@ pub extern "C" fn hsd_read_count(gain: f64, constant: f64, bits: u16, count: u16
 }
 
 // The reading of a count by the file that it stands in: gain, constant and valid bits travel together.
-#[unsafe(no_mangle)]
-pub extern "C" fn hsd_reading(file: HsdFile, count: u16) -> HsdReading
+pub fn hsd_reading(file: HsdFile, count: u16) -> HsdReading
     ensures { result ≡ shown_reading (reading_of (calibration_c file) count) }
 {
     hsd_read_count(file.gain, file.constant, file.valid_bits, count)
@@ -188,7 +186,7 @@ fn no_radiance(kind: u8) -> HsdReading
 
 // The marks of quality flag 1, each 0 no, 1 yes or 2 not known.
 #[repr(C)]
-#[derive(Drop)]
+#[derive(Clone, Copy)]
 pub struct HsdQuality {
     pub invalid: u8,
     pub sun: u8,
@@ -200,8 +198,7 @@ pub struct HsdQuality {
     pub eclipse: u8,
 }
 
-#[unsafe(no_mangle)]
-pub extern "C" fn hsd_quality(quality: u8) -> HsdQuality
+pub fn hsd_quality(quality: u8) -> HsdQuality
     ensures { result ≡ shown_marks (marks_of quality) }
 {
     let m = reading::marks_of(quality);
@@ -237,7 +234,7 @@ fn shown_mark(mark: Mark) -> u8
 
 // refusal is 0 for a number, and number is 0 for a refusal.
 #[repr(C)]
-#[derive(Drop)]
+#[derive(Clone, Copy)]
 pub struct HsdFrameNumber {
     pub refusal: u8,
     pub block: u8,
@@ -245,8 +242,7 @@ pub struct HsdFrameNumber {
     pub number: i64,
 }
 
-#[unsafe(no_mangle)]
-pub extern "C" fn hsd_frame_number(
+pub fn hsd_frame_number(
     first_day: u32,
     first_timeline: u16,
     day: u32,
@@ -275,16 +271,14 @@ pub extern "C" fn hsd_frame_number(
 }
 
 // The Modified Julian Day of a date, or 0 where it is not a real one of 2000 to 2099.
-#[unsafe(no_mangle)]
-pub extern "C" fn hsd_day(year: u16, month: u8, day: u8) -> u32
+pub fn hsd_day(year: u16, month: u8, day: u8) -> u32
     ensures { result ≡ day_or_0 (day_of year month day) }
 {
     format::day_or_0(calendar::day_of(year as u32, month as u32, day as u32))
 }
 
 // The valid bits of a band, or 0 for what is no band.
-#[unsafe(no_mangle)]
-pub extern "C" fn hsd_valid_bits(band: u16) -> u16
+pub fn hsd_valid_bits(band: u16) -> u16
     ensures { result ≡ (band_of band).bits }
 {
     format::band_of(band).bits

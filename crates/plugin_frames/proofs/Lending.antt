@@ -1,16 +1,9 @@
 -- Laws of lent marks and lent lines.
 -- Assumes nothing.
-use mathlib.Core.Path.{◌≡◌, refl, sym, ap, ◌∙◌}
-use mathlib.Core.Bool.{Bool, true, false, ◌&&◌, false≢true, and-eq-true_iff}
-use mathlib.Core.List.{List, [], ◌∷◌, ◌++◌, append_assoc, append-nil}
-use Prim.Native.Nat.{ℕ, zero, suc, ◌+◌, ◌-◌, ◌<◌, ◌≤◌}
-use native.Mathlib.Nat.{le_trans}
-use native.Mathlib.Numerals.{add-one}
-use native.Mathlib.Omega.{arith}
-use borrow.Author.Tests.{eqb-true, le-leb, ltb-false}
-use lib.Dec.{eqb, leb, ltb}
-use lib.ListN.{length, get_or, drop, set, length-append, drop_of_length-le, get_or-eq_default}
-use lib.Seq.{set_at, drop-cons}
+use Rattle.std.proofs.Common.{◌≡◌, refl, sym, ap, ◌∙◌, Bool, true, false, ◌&&◌, List, [], ◌∷◌, ◌++◌, append_assoc, append-nil, ℕ, zero, suc, ◌+◌, ◌-◌, ◌<◌, ◌≤◌, le_trans, add-one, arith, eqb-true, le-leb, ltb-false, eqb, leb, ltb, length, get_or, drop, set, length-append, drop_of_length-le, drop-cons}
+use Rattle.std.proofs.Math.Bool.{false≢true, and-eq-true_iff}
+use Rattle.std.proofs.Math.ListN.{get_or-eq_default}
+use Rattle.std.proofs.Math.Seq.{set_at}
 use Rattle.wire.specs.Wire.{tab}
 use Rattle.wire.proofs.Rows.{tab_is}
 use Rattle.frame.specs.Records.{pass, no_marks, none_above}

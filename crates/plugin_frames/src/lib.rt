@@ -1,3 +1,4 @@
+#![tactic(auto)]
 // Frames for C, thin over the proved library: a slate of plain numbers, 99 lent marks, and a lent strip of counts; and why a file is none of a slate's.
 ghost use Rattle.std.specs.Prelude.{◌≡◌, length};
 ghost use Rattle.rules.specs.Rules.{fine, paper, judge, after, says};
@@ -26,6 +27,7 @@ pub struct HsdSlate {
 }
 
 // All 99 are looked at, and not up to the first that is none: so many are looked at in one instruction.
+#[tactic(auto, using(crate::proofs::Lending::bits_more, crate::proofs::Lending::bits_end))]
 fn are_bits(marks: &[u8]) -> bool
     ensures { result ≡ bits_from marks.now 0 }
 {
@@ -38,12 +40,14 @@ fn are_bits(marks: &[u8]) -> bool
     good
 }
 
+#[tactic(auto, unfolding(crate::specs::Strips::good_marks))]
 fn good_marks(marks: &[u8]) -> bool
     ensures { result ≡ good_marks marks.now }
 {
     (marks.len() == 99) & are_bits(marks)
 }
 
+#[tactic(auto, using(crate::proofs::Lending::flags_turn), unfolding(crate::specs::Strips::flags))]
 fn record_of(marks: &[u8]) -> Record
     ensures { result.marks ≡ marks_in marks.now }
 {
@@ -57,6 +61,7 @@ fn record_of(marks: &[u8]) -> Record
 }
 
 // The slate of a struct's numbers, or refusal 13 where the marks will not do or the slate is bad.
+#[tactic(auto, using(crate::proofs::Lending::slate_marked))]
 fn slate_of(s: HsdSlate, marked: bool) -> Slated
     ensures verdict_value { paper result.verdict ≡ slate_c s marked }
     ensures slate_value { result.slate ≡ after (judge fine (slated (slate_in s))) blank (slate_in s) }
@@ -92,6 +97,7 @@ fn store_marks(marks: &mut [u8], rec: Record)
 }
 
 // The answer; the marks are the newest record's, unless something is wrong.
+#[tactic(auto, unfolding(rules::specs::Rules::paper, rules::specs::Rules::after))]
 fn keep(marks: &mut [u8], held: Held) -> HsdAnswer
     requires { length marks.old ≡ 99 }
     ensures value { result ≡ shown_ruling (paper held.verdict) }
@@ -108,8 +114,8 @@ fn keep(marks: &mut [u8], held: Held) -> HsdAnswer
 }
 
 // Opens a frame: fills it with 65,534 and clears the marks, whatever they were.
-#[unsafe(no_mangle)]
-pub extern "C" fn hsd_open(slate: HsdSlate, marks: &mut [u8], frame: &mut [u16]) -> HsdAnswer
+#[tactic(auto, using(crate::proofs::Lending::lent_made, crate::proofs::Lending::lent_good, crate::proofs::Lending::lent_opened, crate::proofs::Lending::open_strip_lem), unfolding(rules::specs::Rules::paper, rules::specs::Rules::after, crate::specs::Strips::open_marks, crate::specs::Strips::open_strip))]
+pub fn hsd_open(slate: HsdSlate, marks: &mut [u8], frame: &mut [u16]) -> HsdAnswer
     ensures value { result ≡ shown_ruling (opened_c slate marks.old (length frame.old)) }
     ensures marks_after { marks.new ≡ open_marks slate marks.old (length frame.old) }
     ensures frame_after { frame.new ≡ open_strip slate marks.old frame.old }
@@ -127,13 +133,8 @@ pub extern "C" fn hsd_open(slate: HsdSlate, marks: &mut [u8], frame: &mut [u16])
 }
 
 // Offers a file: places its counts and sets its mark, or says why not.
-#[unsafe(no_mangle)]
-pub extern "C" fn hsd_offer(
-    slate: HsdSlate,
-    marks: &mut [u8],
-    frame: &mut [u16],
-    file: &[u8],
-) -> HsdAnswer
+#[tactic(auto, using(crate::proofs::Lending::lent_made, crate::proofs::Lending::lent_good, crate::proofs::Lending::good_long, crate::proofs::Lending::lent_offered, crate::proofs::Lending::offer_strip_lem), unfolding(rules::specs::Rules::paper, rules::specs::Rules::after, crate::specs::Strips::offer_marks, crate::specs::Strips::offer_strip))]
+pub fn hsd_offer(slate: HsdSlate, marks: &mut [u8], frame: &mut [u16], file: &[u8]) -> HsdAnswer
     ensures value { result ≡ shown_ruling (offered_c slate marks.old (length frame.old) file.now) }
     ensures marks_after { marks.new ≡ offer_marks slate marks.old (length frame.old) file.now }
     ensures frame_after { frame.new ≡ offer_strip slate marks.old frame.old file.now }
@@ -167,8 +168,8 @@ fn copy(line: &[u16], out: &mut [u16]) -> usize
 }
 
 // Copies a line of the frame, or of the leader where its segment is missing, and answers how many counts these are.
-#[unsafe(no_mangle)]
-pub extern "C" fn hsd_line<'a>(
+#[tactic(auto, using(crate::proofs::Lending::lent_made, crate::proofs::Lending::lent_line, crate::proofs::Lending::lent_asked, crate::proofs::Lending::none_copied), unfolding(rules::specs::Rules::paper))]
+pub fn hsd_line<'a>(
     slate: HsdSlate,
     marks: &[u8],
     frame: &'a [u16],
@@ -221,6 +222,7 @@ fn rank_of(part: Part) -> u8
     }
 }
 
+#[tactic(auto, unfolding(crate::specs::Reasons::shown_reason))]
 fn shown_compared(c: Compared) -> HsdWhy
     ensures { result ≡ shown_reason (says c) }
 {
@@ -247,6 +249,7 @@ fn shown_compared(c: Compared) -> HsdWhy
     }
 }
 
+#[tactic(auto, unfolding(slate::specs::Slates::paper_reason, rules::specs::Rules::paper, plugin::specs::Plugin::shown_ruling, crate::specs::Reasons::shown_reason))]
 fn shown_reason(reason: Reason) -> HsdWhy
     ensures { result ≡ shown_reason (paper_reason reason) }
 {
@@ -267,8 +270,8 @@ fn shown_reason(reason: Reason) -> HsdWhy
 }
 
 // Why a file is not a segment of the slate's frame: what is wrong with either, or the first part in which they differ.
-#[unsafe(no_mangle)]
-pub extern "C" fn hsd_why(slate: HsdSlate, file: &[u8]) -> HsdWhy
+#[tactic(auto, using(crate::proofs::Lending::lent_made, crate::proofs::Lending::lent_why), unfolding(rules::specs::Rules::paper, slate::specs::Slates::paper_reason))]
+pub fn hsd_why(slate: HsdSlate, file: &[u8]) -> HsdWhy
     ensures { result ≡ shown_reason (reason_of (slate_in slate) file.now) }
 {
     let made = slate_of(slate, true);

@@ -1,3 +1,4 @@
+#![tactic(auto)]
 // Night totals for C, thin over the proved library: a run by value.
 ghost use Rattle.std.specs.Prelude.{◌≡◌};
 ghost use Rattle.night.specs.Runs.{added, run_after, extra_after};
@@ -65,8 +66,7 @@ fn run_out(run: Run) -> HsdRun
 }
 
 // Adds a file to a run.
-#[unsafe(no_mangle)]
-pub extern "C" fn hsd_night_add(run: HsdRun, file: &[u8]) -> HsdNight
+pub fn hsd_night_add(run: HsdRun, file: &[u8]) -> HsdNight
     ensures { result ≡ shown_night (added (run_in run) file.now) (extra_after (run_in run) file.now) (run_after (run_in run) file.now) }
 {
     let added = night::add(run_in(run), file);

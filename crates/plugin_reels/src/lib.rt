@@ -1,3 +1,4 @@
+#![tactic(auto)]
 // Reels for C, thin over the proved library: files end to end and their lengths, and places in bytes.
 ghost use Rattle.std.specs.Prelude.{◌≡◌};
 ghost use Rattle.plugin.specs.Plugin.{shown_ruling};
@@ -28,8 +29,8 @@ pub struct HsdPart {
 }
 
 // Opens a reel.
-#[unsafe(no_mangle)]
-pub extern "C" fn hsd_reel_open(reel: &[u8]) -> HsdReel
+#[tactic(auto, unfolding(reel::specs::Reels::paper_opened, crate::specs::Reels::shown_reel))]
+pub fn hsd_reel_open(reel: &[u8]) -> HsdReel
     ensures { result ≡ shown_reel (opened reel.now) }
 {
     let answer = reel::open(reel);
@@ -53,8 +54,7 @@ pub extern "C" fn hsd_reel_open(reel: &[u8]) -> HsdReel
 }
 
 // Where the file of a number stands.
-#[unsafe(no_mangle)]
-pub extern "C" fn hsd_reel_part(reel: &[u8], number: u16) -> HsdPart
+pub fn hsd_reel_part(reel: &[u8], number: u16) -> HsdPart
     ensures { result ≡ shown_place (place_of reel.now number) }
 {
     let p = reel::place_of(reel, number);
@@ -65,16 +65,14 @@ pub extern "C" fn hsd_reel_part(reel: &[u8], number: u16) -> HsdPart
 }
 
 // How long a trailer is.
-#[unsafe(no_mangle)]
-pub extern "C" fn hsd_reel_trailer(files: usize) -> usize
+pub fn hsd_reel_trailer(files: usize) -> usize
     ensures { result ≡ trailer_length files }
 {
     reel::trailer_length(files)
 }
 
 // Writes the reel of files that stand end to end.
-#[unsafe(no_mangle)]
-pub extern "C" fn hsd_reel_write(files: &[u8], lengths: &[u32], out: &mut [u8]) -> HsdAnswer
+pub fn hsd_reel_write(files: &[u8], lengths: &[u32], out: &mut [u8]) -> HsdAnswer
     ensures value { result ≡ shown_ruling (wrote files.now lengths.now (reel_of (listed files.now lengths.now)) out.old) }
     ensures out_after { out.new ≡ written files.now lengths.now (reel_of (listed files.now lengths.now)) out.old }
 {
@@ -82,8 +80,7 @@ pub extern "C" fn hsd_reel_write(files: &[u8], lengths: &[u32], out: &mut [u8]) 
 }
 
 // Writes its trailer alone.
-#[unsafe(no_mangle)]
-pub extern "C" fn hsd_reel_seal(files: &[u8], lengths: &[u32], out: &mut [u8]) -> HsdAnswer
+pub fn hsd_reel_seal(files: &[u8], lengths: &[u32], out: &mut [u8]) -> HsdAnswer
     ensures value { result ≡ shown_ruling (wrote files.now lengths.now (trailer_of (listed files.now lengths.now)) out.old) }
     ensures out_after { out.new ≡ written files.now lengths.now (trailer_of (listed files.now lengths.now)) out.old }
 {

@@ -1,3 +1,4 @@
+#![tactic(auto)]
 // A file by a plan of numbers, stored at the front of a lent buffer: a good one where the numbers are good, and else what they say.
 ghost use Rattle.std.specs.Prelude.{◌≡◌, ◌+◌, ◌*◌, ◌%◌, ◌<◌, min, [], ◌∷◌, length};
 ghost use Rattle.wire.specs.Wire.{digits, rows, Stored};
@@ -5,7 +6,7 @@ ghost use Rattle.samples.specs.Pieces.{filed};
 ghost use Rattle.samples.specs.Sample.{paper_plan, bits_for, resolution_for, two, head, length_for, basic, name, dated, middle, back, byte_of, count_of, sample};
 
 // What a file is made of; the rest of it follows from these.
-#[derive(Drop)]
+#[derive(Clone, Copy)]
 pub struct Plan {
     pub order: u8,
     // a digit

@@ -1,3 +1,4 @@
+#![tactic(auto)]
 // Words that the programs print, as bytes: what a verdict says, a name without its blanks. Nothing here writes: the programs do.
 ghost use Rattle.std.specs.Prelude.{◌≡◌};
 ghost use Rattle.wire.specs.Wire.{Stored};
