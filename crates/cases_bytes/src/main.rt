@@ -1,13 +1,16 @@
+#![tactic(auto)]
 // Runs cases of bytes and numbers, read and stored at places of a slice, past its end too.
 // It writes a line for each: what is asked, then the answer. The answers in the file stdout were worked out apart from this code.
 mod reads;
 mod stores;
 
-fn main() {
-    reads::run_places();
-    reads::run_numbers();
-    reads::run_pieces();
-    reads::run_sames();
-    stores::run_numbers();
-    stores::run_runs();
+use std::io;
+
+fn main(rt: HostRuntime) -> io::Result<()> {
+    reads::run_places(&rt)?;
+    reads::run_numbers(&rt)?;
+    reads::run_pieces(&rt)?;
+    reads::run_sames(&rt)?;
+    stores::run_numbers(&rt)?;
+    stores::run_runs(&rt)
 }

@@ -1,5 +1,5 @@
 // Bytes and numbers read at places of a run of bytes.
-use libc::STDOUT_FILENO;
+use std::io;
 
 pub const BYTES: [u8; 9] = [0x01, 0x23, 0x45, 0x67, 0x89, 0xab, 0xcd, 0xef, 0x5a];
 
@@ -35,71 +35,73 @@ const RUN: [u8; 6] = [1, 2, 1, 2, 1, 3];
 // Two pieces of RUN: place and length of one, and of the other.
 const PAIRS: [[u64; 4]; 4] = [[0, 2, 2, 2], [0, 2, 4, 2], [0, 2, 0, 3], [0, 0, 6, 0]];
 
-fn byte(b: u8) {
-    io::print_hex(STDOUT_FILENO, b as u64, 2);
+fn byte(rt: &impl Print, b: u8) -> io::Result<()> {
+    print!(rt; "{b:02x}")
 }
 
-pub(crate) fn bytes(s: &[u8]) {
+pub(crate) fn bytes(rt: &impl Print, s: &[u8]) -> io::Result<()> {
     if s.len() == 0 {
-        io::write_all(STDOUT_FILENO, b"empty");
+        rt.write_all(b"empty")?;
     }
     for i in 0..s.len() {
-        byte(s[i]);
+        byte(rt, s[i])?;
     }
+    Ok(())
 }
 
 // A place of a run of bytes, which ends what is asked.
-pub(crate) fn place(at: usize, s: &[u8]) {
-    io::write_all(STDOUT_FILENO, b" at ");
-    io::print_decimal(STDOUT_FILENO, at as u64);
-    io::write_all(STDOUT_FILENO, b" of ");
-    bytes(s);
-    io::write_all(STDOUT_FILENO, b": ");
+pub(crate) fn place(rt: &impl Print, at: usize, s: &[u8]) -> io::Result<()> {
+    rt.write_all(b" at ")?;
+    print!(rt; "{at}")?;
+    rt.write_all(b" of ")?;
+    bytes(rt, s)?;
+    rt.write_all(b": ")
 }
 
-fn show_byte(s: &[u8], at: usize) {
-    io::write_all(STDOUT_FILENO, b"byte");
-    place(at, s);
-    byte(wire::byte_at(s, at));
-    io::write_all(STDOUT_FILENO, b"\n");
+fn show_byte(rt: &impl Print, s: &[u8], at: usize) -> io::Result<()> {
+    rt.write_all(b"byte")?;
+    place(rt, at, s)?;
+    byte(rt, wire::byte_at(s, at))?;
+    rt.write_all(b"\n")
 }
 
-fn show_left(s: &[u8], at: usize) {
-    io::write_all(STDOUT_FILENO, b"left");
-    place(at, s);
-    io::print_decimal(STDOUT_FILENO, wire::left(s, at) as u64);
-    io::write_all(STDOUT_FILENO, b"\n");
+fn show_left(rt: &impl Print, s: &[u8], at: usize) -> io::Result<()> {
+    rt.write_all(b"left")?;
+    place(rt, at, s)?;
+    print!(rt; "{}", wire::left(s, at))?;
+    rt.write_all(b"\n")
 }
 
-fn show_rest(s: &[u8], at: usize) {
-    io::write_all(STDOUT_FILENO, b"rest");
-    place(at, s);
-    bytes(wire::rest(s, at));
-    io::write_all(STDOUT_FILENO, b"\n");
+fn show_rest(rt: &impl Print, s: &[u8], at: usize) -> io::Result<()> {
+    rt.write_all(b"rest")?;
+    place(rt, at, s)?;
+    bytes(rt, wire::rest(s, at))?;
+    rt.write_all(b"\n")
 }
 
-fn show_fill(s: &[u8], at: usize) {
+fn show_fill(rt: &impl Print, s: &[u8], at: usize) -> io::Result<()> {
     let mut buf = [0xeeu8; 4];
-    io::write_all(STDOUT_FILENO, b"fill ");
-    bytes(&buf);
-    place(at, s);
+    rt.write_all(b"fill ")?;
+    bytes(rt, &buf)?;
+    place(rt, at, s)?;
     wire::fill(&mut buf, s, at);
-    bytes(&buf);
-    io::write_all(STDOUT_FILENO, b"\n");
+    bytes(rt, &buf)?;
+    rt.write_all(b"\n")
 }
 
-fn show_place(s: &[u8], at: usize) {
-    show_byte(s, at);
-    show_left(s, at);
-    show_rest(s, at);
-    show_fill(s, at);
+fn show_place(rt: &impl Print, s: &[u8], at: usize) -> io::Result<()> {
+    show_byte(rt, s, at)?;
+    show_left(rt, s, at)?;
+    show_rest(rt, s, at)?;
+    show_fill(rt, s, at)
 }
 
-pub(crate) fn run_places() {
+pub(crate) fn run_places(rt: &impl Print) -> io::Result<()> {
     let bytes = BYTES;
     for i in 0..3 {
-        show_place(&bytes, PLACES[i] as usize);
+        show_place(rt, &bytes, PLACES[i] as usize)?;
     }
+    Ok(())
 }
 
 // The number of two, four or eight bytes.
@@ -111,68 +113,69 @@ fn number_at(s: &[u8], width: u8, order: u8, at: usize) -> u64 {
     }
 }
 
-fn show_number(s: &[u8], row: [u64; 3]) {
+fn show_number(rt: &impl Print, s: &[u8], row: [u64; 3]) -> io::Result<()> {
     let width = (row[0] % 256) as u8;
     let order = (row[1] % 256) as u8;
     let at = row[2] as usize;
-    io::write_all(STDOUT_FILENO, b"u");
-    io::print_decimal(STDOUT_FILENO, 8 * (width as u64));
-    io::write_all(STDOUT_FILENO, b" order ");
-    io::print_decimal(STDOUT_FILENO, order as u64);
-    place(at, s);
-    io::print_hex(
-        STDOUT_FILENO,
-        number_at(s, width, order, at),
-        2 * (width as usize),
-    );
-    io::write_all(STDOUT_FILENO, b"\n");
+    rt.write_all(b"u")?;
+    print!(rt; "{}", 8 * (width as u64))?;
+    rt.write_all(b" order ")?;
+    print!(rt; "{order}")?;
+    place(rt, at, s)?;
+    let n = number_at(s, width, order, at);
+    let digits = 2 * (width as usize);
+    print!(rt; "{n:0digits$x}")?;
+    rt.write_all(b"\n")
 }
 
-pub(crate) fn run_numbers() {
+pub(crate) fn run_numbers(rt: &impl Print) -> io::Result<()> {
     let bytes = BYTES;
     for i in 0..14 {
-        show_number(&bytes, NUMBERS[i]);
+        show_number(rt, &bytes, NUMBERS[i])?;
     }
+    Ok(())
 }
 
-fn show_piece(s: &[u8], row: [u64; 2]) {
+fn show_piece(rt: &impl Print, s: &[u8], row: [u64; 2]) -> io::Result<()> {
     let n = row[0] as usize;
     let at = row[1] as usize;
-    io::write_all(STDOUT_FILENO, b"piece ");
-    io::print_decimal(STDOUT_FILENO, n as u64);
-    place(at, s);
-    bytes(wire::piece(s, at, n));
-    io::write_all(STDOUT_FILENO, b"\n");
+    rt.write_all(b"piece ")?;
+    print!(rt; "{n}")?;
+    place(rt, at, s)?;
+    bytes(rt, wire::piece(s, at, n))?;
+    rt.write_all(b"\n")
 }
 
-pub(crate) fn run_pieces() {
+pub(crate) fn run_pieces(rt: &impl Print) -> io::Result<()> {
     let bytes = BYTES;
     for i in 0..4 {
-        show_piece(&bytes, PIECES[i]);
+        show_piece(rt, &bytes, PIECES[i])?;
     }
+    Ok(())
 }
 
-fn show_same(a: &[u8], b: &[u8]) {
-    io::write_all(STDOUT_FILENO, b"same ");
-    bytes(a);
-    io::write_all(STDOUT_FILENO, b" ");
-    bytes(b);
+fn show_same(rt: &impl Print, a: &[u8], b: &[u8]) -> io::Result<()> {
+    rt.write_all(b"same ")?;
+    bytes(rt, a)?;
+    rt.write_all(b" ")?;
+    bytes(rt, b)?;
     if wire::same(a, b) {
-        io::write_all(STDOUT_FILENO, b": yes\n");
+        rt.write_all(b": yes\n")
     } else {
-        io::write_all(STDOUT_FILENO, b": no\n");
+        rt.write_all(b": no\n")
     }
 }
 
-fn show_pair(s: &[u8], row: [u64; 4]) {
+fn show_pair(rt: &impl Print, s: &[u8], row: [u64; 4]) -> io::Result<()> {
     let a = wire::piece(s, row[0] as usize, row[1] as usize);
     let b = wire::piece(s, row[2] as usize, row[3] as usize);
-    show_same(a, b);
+    show_same(rt, a, b)
 }
 
-pub(crate) fn run_sames() {
+pub(crate) fn run_sames(rt: &impl Print) -> io::Result<()> {
     let run = RUN;
     for i in 0..4 {
-        show_pair(&run, PAIRS[i]);
+        show_pair(rt, &run, PAIRS[i])?;
     }
+    Ok(())
 }

@@ -1,7 +1,7 @@
 // Numbers and runs of bytes stored at places of a lent slice.
 use crate::reads;
 use crate::reads::{BYTES, TOP};
-use libc::STDOUT_FILENO;
+use std::io;
 
 // How many bytes, the number, the byte order and the place.
 const NUMBERS: [[u64; 4]; 14] = [
@@ -25,18 +25,18 @@ const NUMBERS: [[u64; 4]; 14] = [
 const RUNS: [[u64; 2]; 3] = [[3, 3], [3, 7], [9, TOP]];
 
 // What is stored, and its name.
-fn show_what(width: u8, x: u64, order: u8) {
+fn show_what(rt: &impl Print, width: u8, x: u64, order: u8) -> io::Result<()> {
     if width == 1 {
-        io::write_all(STDOUT_FILENO, b"put_byte ");
-        io::print_hex(STDOUT_FILENO, x, 2);
-        return;
+        rt.write_all(b"put_byte ")?;
+        return print!(rt; "{x:02x}");
     }
-    io::write_all(STDOUT_FILENO, b"put_u");
-    io::print_decimal(STDOUT_FILENO, 8 * (width as u64));
-    io::write_all(STDOUT_FILENO, b" ");
-    io::print_hex(STDOUT_FILENO, x, 2 * (width as usize));
-    io::write_all(STDOUT_FILENO, b" order ");
-    io::print_decimal(STDOUT_FILENO, order as u64);
+    rt.write_all(b"put_u")?;
+    print!(rt; "{}", 8 * (width as u64))?;
+    rt.write_all(b" ")?;
+    let digits = 2 * (width as usize);
+    print!(rt; "{x:0digits$x}")?;
+    rt.write_all(b" order ")?;
+    print!(rt; "{order}")
 }
 
 fn store(out: &mut [u8], width: u8, x: u64, order: u8, at: usize) {
@@ -48,41 +48,43 @@ fn store(out: &mut [u8], width: u8, x: u64, order: u8, at: usize) {
     }
 }
 
-fn show_number(row: [u64; 4]) {
+fn show_number(rt: &impl Print, row: [u64; 4]) -> io::Result<()> {
     let width = (row[0] % 256) as u8;
     let order = (row[2] % 256) as u8;
     let at = row[3] as usize;
     let mut buf = [0xeeu8; 9];
-    show_what(width, row[1], order);
-    reads::place(at, &buf);
+    show_what(rt, width, row[1], order)?;
+    reads::place(rt, at, &buf)?;
     store(&mut buf, width, row[1], order, at);
-    reads::bytes(&buf);
-    io::write_all(STDOUT_FILENO, b"\n");
+    reads::bytes(rt, &buf)?;
+    rt.write_all(b"\n")
 }
 
-pub(crate) fn run_numbers() {
+pub(crate) fn run_numbers(rt: &impl Print) -> io::Result<()> {
     for i in 0..14 {
-        show_number(NUMBERS[i]);
+        show_number(rt, NUMBERS[i])?;
     }
+    Ok(())
 }
 
-fn show_run(run: &[u8], at: usize) {
+fn show_run(rt: &impl Print, run: &[u8], at: usize) -> io::Result<()> {
     let mut buf = [0xeeu8; 9];
-    io::write_all(STDOUT_FILENO, b"put ");
-    reads::bytes(run);
-    reads::place(at, &buf);
+    rt.write_all(b"put ")?;
+    reads::bytes(rt, run)?;
+    reads::place(rt, at, &buf)?;
     wire::put(&mut buf, at, run);
-    reads::bytes(&buf);
-    io::write_all(STDOUT_FILENO, b"\n");
+    reads::bytes(rt, &buf)?;
+    rt.write_all(b"\n")
 }
 
-fn show_first(s: &[u8], row: [u64; 2]) {
-    show_run(wire::piece(s, 0, row[0] as usize), row[1] as usize);
+fn show_first(rt: &impl Print, s: &[u8], row: [u64; 2]) -> io::Result<()> {
+    show_run(rt, wire::piece(s, 0, row[0] as usize), row[1] as usize)
 }
 
-pub(crate) fn run_runs() {
+pub(crate) fn run_runs(rt: &impl Print) -> io::Result<()> {
     let bytes = BYTES;
     for i in 0..3 {
-        show_first(&bytes, RUNS[i]);
+        show_first(rt, &bytes, RUNS[i])?;
     }
+    Ok(())
 }

@@ -1,7 +1,7 @@
 // Changes of a file that was made: a field is set, or the file gets another length.
 use crate::change::WHAT;
 use crate::{change, plan};
-use libc::STDOUT_FILENO;
+use std::io;
 
 // Added to a number or a length once for each block, and to a byte of block 1 once for each byte before it.
 pub const BLOCK: usize = WHAT;
@@ -237,50 +237,46 @@ pub(crate) fn apply(out: &mut [u8], p: [usize; 15], x: usize) {
     }
 }
 
-pub(crate) fn letters(n: u32) -> bool {
+pub(crate) fn letters(rt: &impl Print, n: u32) -> io::Result<()> {
     let b = wire::four_bytes(n, 1);
-    io::write_all(STDOUT_FILENO, &b)
+    rt.write_all(&b)
 }
 
-fn tell_value(field: usize, value: usize) {
-    io::write_all(STDOUT_FILENO, b" ");
+fn tell_value(rt: &impl Print, field: usize, value: usize) -> io::Result<()> {
+    rt.write_all(b" ")?;
     match field % 100 {
-        LETTERS => letters((value % WHAT) as u32),
-        UPPER => io::print_hex(STDOUT_FILENO, value as u64, 8),
-        BARE => io::print_hex(STDOUT_FILENO, value as u64, 2),
-        _ => io::print_decimal(STDOUT_FILENO, value as u64),
-    };
+        LETTERS => letters(rt, (value % WHAT) as u32),
+        UPPER => print!(rt; "{value:08x}"),
+        BARE => print!(rt; "{value:02x}"),
+        _ => print!(rt; "{value}"),
+    }
 }
 
-fn tell_name(what: usize) {
+fn tell_name(rt: &impl Print, what: usize) -> io::Result<()> {
     if what < 1000 {
         let names = NAMES;
-        io::write_all(STDOUT_FILENO, b" ");
-        io::write_all(
-            STDOUT_FILENO,
-            say::trimmed(wire::piece(&names, 16 * what, 16)),
-        );
-        return;
+        rt.write_all(b" ")?;
+        return rt.write_all(say::trimmed(wire::piece(&names, 16 * what, 16)));
     }
-    io::write_all(STDOUT_FILENO, b" byte ");
-    io::print_decimal(STDOUT_FILENO, (what - 1000) as u64);
+    rt.write_all(b" byte ")?;
+    print!(rt; "{}", what - 1000)
 }
 
 // Tells of a change, where it is one.
-pub(crate) fn tell(x: usize) {
+pub(crate) fn tell(rt: &impl Print, x: usize) -> io::Result<()> {
     let what = change::what(x);
     if what == 0 {
-        return;
+        return Ok(());
     }
     let field = field_of(what);
     let block = field / 1000000;
-    io::write_all(STDOUT_FILENO, b",");
+    rt.write_all(b",")?;
     if block != 0 {
-        io::write_all(STDOUT_FILENO, b" set block ");
-        io::print_decimal(STDOUT_FILENO, block as u64);
+        rt.write_all(b" set block ")?;
+        print!(rt; "{block}")?;
     }
-    tell_name(what);
-    tell_value(field, change::value(x));
+    tell_name(rt, what)?;
+    tell_value(rt, field, change::value(x))
 }
 
 // How long a file is after a change.

@@ -1,89 +1,89 @@
 // One case: a file is made and changed, judged, and told of in a line.
 use crate::{change, make, set};
 use accept::{Answer, Facts};
-use libc::STDOUT_FILENO;
+use std::io;
 
-fn tell(x: [usize; 4]) {
+fn tell(rt: &impl Print, x: [usize; 4]) -> io::Result<()> {
     if x[0] / change::FILE % 2 == 1 {
-        io::write_all(STDOUT_FILENO, b"little");
+        rt.write_all(b"little")?;
     } else {
-        io::write_all(STDOUT_FILENO, b"big");
+        rt.write_all(b"big")?;
     }
     if change::LITTLE_FULL <= x[0] {
-        io::write_all(STDOUT_FILENO, b" full");
+        rt.write_all(b" full")?;
     }
-    set::tell(x[0]);
-    set::tell(x[1]);
-    set::tell(x[2]);
-    set::tell(x[3]);
+    set::tell(rt, x[0])?;
+    set::tell(rt, x[1])?;
+    set::tell(rt, x[2])?;
+    set::tell(rt, x[3])
 }
 
-fn number(n: u64) {
-    io::write_all(STDOUT_FILENO, b" ");
-    io::print_decimal(STDOUT_FILENO, n);
+fn number(rt: &impl Print, n: u64) -> io::Result<()> {
+    rt.write_all(b" ")?;
+    print!(rt; "{n}")
 }
 
 // Numbers of one, two and four bytes: so no caller has to prove a cast.
-fn one(n: u8) {
-    number(n as u64);
+fn one(rt: &impl Print, n: u8) -> io::Result<()> {
+    number(rt, n as u64)
 }
 
-fn two(n: u16) {
-    number(n as u64);
+fn two(rt: &impl Print, n: u16) -> io::Result<()> {
+    number(rt, n as u64)
 }
 
-fn four(n: u32) {
-    number(n as u64);
+fn four(rt: &impl Print, n: u32) -> io::Result<()> {
+    number(rt, n as u64)
 }
 
 // What the listing writes.
-fn tell_shot(f: Facts) {
-    io::write_all(STDOUT_FILENO, b": OK");
-    one(f.satellite);
-    four(f.day);
-    two(f.timeline);
-    two(f.band);
-    io::write_all(STDOUT_FILENO, b" ");
-    set::letters(f.area);
-    two(f.columns);
-    two(f.lines);
-    one(f.number);
-    one(f.total);
-    two(f.first);
+fn tell_shot(rt: &impl Print, f: Facts) -> io::Result<()> {
+    rt.write_all(b": OK")?;
+    one(rt, f.satellite)?;
+    four(rt, f.day)?;
+    two(rt, f.timeline)?;
+    two(rt, f.band)?;
+    rt.write_all(b" ")?;
+    set::letters(rt, f.area)?;
+    two(rt, f.columns)?;
+    two(rt, f.lines)?;
+    one(rt, f.number)?;
+    one(rt, f.total)?;
+    two(rt, f.first)
 }
 
 // The facts that the listing leaves out.
-fn tell_rest(f: Facts) {
-    io::write_all(STDOUT_FILENO, b", order and bits");
-    one(f.order);
-    two(f.bits);
-    io::write_all(STDOUT_FILENO, b", entries and header");
-    two(f.a);
-    two(f.b);
-    two(f.c);
-    four(f.header);
-    io::write_all(STDOUT_FILENO, b", quality and calibration");
-    one(f.quality);
-    io::write_all(STDOUT_FILENO, b" ");
-    io::print_hex(STDOUT_FILENO, f.gain, 16);
-    io::write_all(STDOUT_FILENO, b" ");
-    io::print_hex(STDOUT_FILENO, f.constant, 16);
+fn tell_rest(rt: &impl Print, f: Facts) -> io::Result<()> {
+    rt.write_all(b", order and bits")?;
+    one(rt, f.order)?;
+    two(rt, f.bits)?;
+    rt.write_all(b", entries and header")?;
+    two(rt, f.a)?;
+    two(rt, f.b)?;
+    two(rt, f.c)?;
+    four(rt, f.header)?;
+    rt.write_all(b", quality and calibration")?;
+    one(rt, f.quality)?;
+    rt.write_all(b" ")?;
+    print!(rt; "{:016x}", f.gain)?;
+    rt.write_all(b" ")?;
+    print!(rt; "{:016x}", f.constant)
 }
 
-fn answer(a: Answer) {
+fn answer(rt: &impl Print, a: Answer) -> io::Result<()> {
     match a {
         Answer::Accepted(f) => {
-            tell_shot(f);
-            tell_rest(f);
+            tell_shot(rt, f)?;
+            tell_rest(rt, f)?;
         }
         Answer::Refused(t) => {
             let mut room = [0u8; 64];
             let n = listing::refusal(&mut room, t);
-            io::write_all(STDOUT_FILENO, b": ");
-            io::write_all(STDOUT_FILENO, wire::piece(&room, 0, n));
+            rt.write_all(b": ")?;
+            rt.write_all(wire::piece(&room, 0, n))?;
         }
     }
-    io::write_all(STDOUT_FILENO, b"\n");
+    rt.write_all(b"\n")
 }
 
 fn length(n: usize, x: [usize; 4]) -> usize {
@@ -122,21 +122,23 @@ fn first(t: &[usize]) -> usize {
 }
 
 // Shows the case that begins a part of a table, where one does.
-fn case(buf: &mut [u8], t: &[usize]) {
+fn case(rt: &impl Print, buf: &mut [u8], t: &[usize]) -> io::Result<()> {
     let x = first(t);
     if change::FILE <= x {
         let x = gathered(x, t);
-        tell(x);
+        tell(rt, x)?;
         let n = length(make::file(buf, x), x);
-        answer(accept::accept(wire::piece(buf, 0, n)));
+        answer(rt, accept::accept(wire::piece(buf, 0, n)))?;
     }
+    Ok(())
 }
 
 // All cases of a table.
-pub(crate) fn table(buf: &mut [u8], t: &[usize]) {
+pub(crate) fn table(rt: &impl Print, buf: &mut [u8], t: &[usize]) -> io::Result<()> {
     let mut i = 0;
     while i < t.len() {
-        case(buf, &t[i..]);
+        case(rt, buf, &t[i..])?;
         i += 1;
     }
+    Ok(())
 }

@@ -1,28 +1,28 @@
 // Plays a scene: a table of steps on one slate, with a record, a strip and a leader.
 use crate::{file, plan, strip, words};
 use frame::{Held, Record};
-use libc::STDOUT_FILENO;
 use rules::Verdict;
 use slate::{Line, Slate};
+use std::io;
 
 const LEADER: [u16; 5] = [901, 902, 903, 904, 905];
 
-fn tell(v: Verdict) {
+fn tell(rt: &impl Print, v: Verdict) -> io::Result<()> {
     let mut room = [0u8; 64];
     let n = say::verdict(&mut room, v, b"OK");
-    io::write_all(STDOUT_FILENO, b" ");
-    io::write_all(STDOUT_FILENO, wire::piece(&room, 0, n));
+    rt.write_all(b" ")?;
+    rt.write_all(wire::piece(&room, 0, n))
 }
 
 // Tells the answer, how many numbers are in, and whether record and strip are as they were.
-fn tell_held(v: Verdict, rec: Record, kept: bool) {
-    tell(v);
-    words::tell(words::COMMA);
-    words::number(frame::tally(rec) as usize);
+fn tell_held(rt: &impl Print, v: Verdict, rec: Record, kept: bool) -> io::Result<()> {
+    tell(rt, v)?;
+    words::tell(rt, words::COMMA)?;
+    words::number(rt, frame::tally(rec) as usize)?;
     if kept {
-        words::tell(words::IN_KEPT);
+        words::tell(rt, words::IN_KEPT)
     } else {
-        words::tell(words::IN);
+        words::tell(rt, words::IN)
     }
 }
 
@@ -49,54 +49,64 @@ fn open_or_offer(
 
 // Does so, tells what came of it, and answers the record after it.
 fn handle(
+    rt: &impl Print,
     deed: usize,
     slate: Slate,
     rec: Record,
     strip: &mut [u16; 128],
     p: [usize; 19],
-) -> Record {
+) -> io::Result<Record> {
     let before = *strip;
     let held = open_or_offer(deed, slate, rec, strip, p);
     let v = held.verdict;
     let next = held.rec;
     let kept = strip::same(&before, strip) & strip::same_marks(rec, next);
-    tell_held(v, next, kept);
-    next
+    tell_held(rt, v, next, kept)?;
+    Ok(next)
 }
 
-fn ask(slate: Slate, rec: Record, strip: &[u16], p: [usize; 19]) {
+fn ask(
+    rt: &impl Print,
+    slate: Slate,
+    rec: Record,
+    strip: &[u16],
+    p: [usize; 19],
+) -> io::Result<()> {
     let leader = LEADER;
-    strip::tell(frame::line_of(
-        slate,
-        rec,
-        strip::part(strip, plan::of(p, plan::STRIP)),
-        strip::part(&leader, plan::of(p, plan::LEADER)),
-        Line(plan::short(p, plan::LINE)),
-    ));
+    strip::tell(
+        rt,
+        frame::line_of(
+            slate,
+            rec,
+            strip::part(strip, plan::of(p, plan::STRIP)),
+            strip::part(&leader, plan::of(p, plan::LEADER)),
+            Line(plan::short(p, plan::LINE)),
+        ),
+    )
 }
 
-fn show(strip: &[u16], p: [usize; 19]) {
-    strip::tell(strip::part(strip, plan::of(p, plan::STRIP)));
+fn show(rt: &impl Print, strip: &[u16], p: [usize; 19]) -> io::Result<()> {
+    strip::tell(rt, strip::part(strip, plan::of(p, plan::STRIP)))
 }
 
-fn try_slate(p: [usize; 19]) {
+fn try_slate(rt: &impl Print, p: [usize; 19]) -> io::Result<()> {
     let slated = plan::slate_of(p);
     let v = slated.verdict;
     let slate = slated.slate;
     match v {
         Verdict::Refused(t) => {
-            tell(Verdict::Refused(t));
-            words::tell(words::END);
+            tell(rt, Verdict::Refused(t))?;
+            words::tell(rt, words::END)
         }
         Verdict::Fine => {
-            words::number(slate.frame_size());
-            words::tell(words::COUNTS);
+            words::number(rt, slate.frame_size())?;
+            words::tell(rt, words::COUNTS)
         }
     }
 }
 
 // A record with one number more, which stands at the place before it, or with all.
-fn marked(rec: Record, number: usize) -> Record {
+fn marked(rt: &impl Print, rec: Record, number: usize) -> io::Result<Record> {
     let mut next = rec;
     if number == 0 {
         next = Record { marks: [true; 99] };
@@ -104,35 +114,47 @@ fn marked(rec: Record, number: usize) -> Record {
         let at = (number % 100 + 98) % 99;
         next.marks[at] = true;
     }
-    words::number(frame::tally(next) as usize);
-    words::tell(words::IN);
-    next
+    words::number(rt, frame::tally(next) as usize)?;
+    words::tell(rt, words::IN)?;
+    Ok(next)
 }
 
 // Does what a step says, and answers the record after it.
-fn act(deed: usize, slate: Slate, rec: Record, strip: &mut [u16; 128], p: [usize; 19]) -> Record {
+fn act(
+    rt: &impl Print,
+    deed: usize,
+    slate: Slate,
+    rec: Record,
+    strip: &mut [u16; 128],
+    p: [usize; 19],
+) -> io::Result<Record> {
     match deed {
-        plan::OPEN | plan::OFFER => handle(deed, slate, rec, strip, p),
-        plan::MARK => marked(rec, plan::of(p, plan::NUMBER)),
+        plan::OPEN | plan::OFFER => handle(rt, deed, slate, rec, strip, p),
+        plan::MARK => marked(rt, rec, plan::of(p, plan::NUMBER)),
         plan::ASK => {
-            ask(slate, rec, strip, p);
-            rec
+            ask(rt, slate, rec, strip, p)?;
+            Ok(rec)
         }
         plan::SHOW => {
-            show(strip, p);
-            rec
+            show(rt, strip, p)?;
+            Ok(rec)
         }
         plan::TRY => {
-            try_slate(p);
-            rec
+            try_slate(rt, p)?;
+            Ok(rec)
         }
-        _ => rec,
+        _ => Ok(rec),
     }
 }
 
 // Plays the steps of a table. What a step changes in the plan holds up to the next deed.
-pub(crate) fn play(title: &[u8], base: [usize; 19], t: &[usize]) {
-    io::write_all(STDOUT_FILENO, title);
+pub(crate) fn play(
+    rt: &impl Print,
+    title: &[u8],
+    base: [usize; 19],
+    t: &[usize],
+) -> io::Result<()> {
+    rt.write_all(title)?;
     let slated = plan::slate_of(base);
     let slate = slated.slate;
     let mut strip = [strip::BARE; 128];
@@ -141,9 +163,10 @@ pub(crate) fn play(title: &[u8], base: [usize; 19], t: &[usize]) {
     for i in 0..t.len() {
         let x = t[i];
         let q = plan::changed(p, x);
-        plan::tell(x);
-        let next = act(x - x % plan::DEED, slate, rec, &mut strip, q);
+        plan::tell(rt, x)?;
+        let next = act(rt, x - x % plan::DEED, slate, rec, &mut strip, q)?;
         rec = next;
         p = if x < plan::DEED { q } else { base };
     }
+    Ok(())
 }

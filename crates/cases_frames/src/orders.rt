@@ -1,6 +1,7 @@
 // The same files in ten orders: forward, backward and mixed. Each file's answer, the record and the strip are the same in every order.
 use crate::plan::{ASK, OFFER};
 use crate::{floor, plan};
+use std::io;
 
 // Six segments, and files that are strange or cut. In the place of a file 0 the strip is shown.
 const FILES: [usize; 11] = [
@@ -50,13 +51,15 @@ fn steps(stride: usize) -> [usize; 18] {
     t
 }
 
-pub(crate) fn run() {
+pub(crate) fn run(rt: &impl Print) -> io::Result<()> {
     for stride in 1..11 {
         let t = steps(stride);
         floor::play(
+            rt,
             b"-- the same files in one of ten orders\n",
             plan::cut(4, 6, 2, 48, 1479),
             &t,
-        );
+        )?;
     }
+    Ok(())
 }

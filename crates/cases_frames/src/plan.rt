@@ -3,8 +3,8 @@
 ghost use Rattle.std.specs.Prelude.{◌<◌};
 
 use crate::words;
-use libc::STDOUT_FILENO;
 use slate::{Slate, Slated};
+use std::io;
 
 // The part, of which there are 19, and what is done are multiples of these.
 pub const PART: usize = 0x1_0000_0000;
@@ -152,28 +152,28 @@ pub(crate) fn slate_of(p: [usize; 19]) -> Slated {
 }
 
 // Two numbers in one value.
-fn pair(a: usize, between: usize, b: usize) {
-    words::number(a);
-    words::tell(between);
-    words::number(b);
+fn pair(rt: &impl Print, a: usize, between: usize, b: usize) -> io::Result<()> {
+    words::number(rt, a)?;
+    words::tell(rt, between)?;
+    words::number(rt, b)
 }
 
-fn tell_value(part: usize, x: usize) {
+fn tell_value(rt: &impl Print, part: usize, x: usize) -> io::Result<()> {
     match part {
-        AREA => words::letters((x % PART) as u32),
-        SEGMENT => pair(x / 1000, words::FROM_LINE, x % 1000),
-        BYTE => pair(x / 256, words::AS, x % 256),
-        _ => words::number(x),
+        AREA => words::letters(rt, (x % PART) as u32),
+        SEGMENT => pair(rt, x / 1000, words::FROM_LINE, x % 1000),
+        BYTE => pair(rt, x / 256, words::AS, x % 256),
+        _ => words::number(rt, x),
     }
 }
 
 // Tells of a change, where it is one, and what is done.
-pub(crate) fn tell(x: usize) {
+pub(crate) fn tell(rt: &impl Print, x: usize) -> io::Result<()> {
     let part = place(x);
     if part != 0 {
-        words::tell(part);
-        tell_value(part * PART, value(x));
-        io::write_all(STDOUT_FILENO, b", ");
+        words::tell(rt, part)?;
+        tell_value(rt, part * PART, value(x))?;
+        rt.write_all(b", ")?;
     }
-    words::tell(words::DEEDS + x / DEED);
+    words::tell(rt, words::DEEDS + x / DEED)
 }

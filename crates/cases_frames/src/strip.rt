@@ -1,6 +1,7 @@
 // Strips of counts: their parts, their line, and whether two of them, or two records, are the same.
 use crate::words;
 use frame::Record;
+use std::io;
 
 // What a strip holds before a frame is opened on it.
 pub const BARE: u16 = 7;
@@ -32,17 +33,17 @@ pub(crate) fn part_mut(s: &mut [u16], n: usize) -> &mut [u16] {
     if n <= s.len() { &mut s[0..n] } else { s }
 }
 
-fn tell_count(n: u16) {
-    words::number(n as usize);
+fn tell_count(rt: &impl Print, n: u16) -> io::Result<()> {
+    words::number(rt, n as usize)
 }
 
 // Counts, each after a blank, and the line's end.
-pub(crate) fn tell(s: &[u16]) {
+pub(crate) fn tell(rt: &impl Print, s: &[u16]) -> io::Result<()> {
     if s.len() == 0 {
-        words::tell(words::EMPTY);
+        words::tell(rt, words::EMPTY)?;
     }
     for i in 0..s.len() {
-        tell_count(s[i]);
+        tell_count(rt, s[i])?;
     }
-    words::tell(words::END);
+    words::tell(rt, words::END)
 }

@@ -1,5 +1,5 @@
 // What a line is made of: words, each with a number, and numbers and letters, each after a blank.
-use libc::STDOUT_FILENO;
+use std::io;
 
 // A part's word has the part's place. What is done follows, of which AND has no word.
 pub const DEEDS: usize = 19;
@@ -57,21 +57,18 @@ const WORDS: [u8; 340] = *b"\
     \n         \
     ,         ";
 
-pub(crate) fn tell(i: usize) {
+pub(crate) fn tell(rt: &impl Print, i: usize) -> io::Result<()> {
     let words = WORDS;
-    io::write_all(
-        STDOUT_FILENO,
-        say::trimmed(wire::piece(&words, 10 * (i % 34), 10)),
-    );
+    rt.write_all(say::trimmed(wire::piece(&words, 10 * (i % 34), 10)))
 }
 
-pub(crate) fn number(n: usize) {
-    io::write_all(STDOUT_FILENO, b" ");
-    io::print_decimal(STDOUT_FILENO, n as u64);
+pub(crate) fn number(rt: &impl Print, n: usize) -> io::Result<()> {
+    rt.write_all(b" ")?;
+    print!(rt; "{n}")
 }
 
-pub(crate) fn letters(n: u32) {
+pub(crate) fn letters(rt: &impl Print, n: u32) -> io::Result<()> {
     let b = wire::four_bytes(n, 1);
-    io::write_all(STDOUT_FILENO, b" ");
-    io::write_all(STDOUT_FILENO, &b);
+    rt.write_all(b" ")?;
+    rt.write_all(&b)
 }

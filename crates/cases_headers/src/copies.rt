@@ -1,7 +1,7 @@
 // Headers that are written, read back and written again.
 use crate::lists;
-use libc::STDOUT_FILENO;
 use rules::Verdict;
+use std::io;
 
 // The byte that every output is filled with before a case: it shows what was kept.
 const BLANK: u8 = 0xaa;
@@ -35,35 +35,35 @@ fn blank_from(out: &[u8], at: usize) -> bool {
     wire::same(wire::rest(out, at), wire::rest(&blank, at))
 }
 
-fn tell(v: Verdict, done: &[u8]) {
+fn tell(rt: &impl Print, v: Verdict, done: &[u8]) -> io::Result<()> {
     let mut room = [0u8; 64];
     let n = say::verdict(&mut room, v, done);
-    io::write_all(STDOUT_FILENO, wire::piece(&room, 0, n));
+    rt.write_all(wire::piece(&room, 0, n))
 }
 
-fn tell_whether(yes: bool, a: &[u8], b: &[u8]) {
+fn tell_whether(rt: &impl Print, yes: bool, a: &[u8], b: &[u8]) -> io::Result<()> {
     if yes {
-        io::write_all(STDOUT_FILENO, a);
+        rt.write_all(a)
     } else {
-        io::write_all(STDOUT_FILENO, b);
+        rt.write_all(b)
     }
 }
 
-fn named(word: &[u8], n: u32) {
-    io::write_all(STDOUT_FILENO, word);
-    io::print_decimal(STDOUT_FILENO, n as u64);
+fn named(rt: &impl Print, word: &[u8], n: u32) -> io::Result<()> {
+    rt.write_all(word)?;
+    print!(rt; "{n}")
 }
 
-fn title(row: [u32; 4]) {
-    named(b"order ", row[0]);
-    named(b" a ", row[1]);
-    named(b" b ", row[2]);
-    named(b" c ", row[3]);
-    io::write_all(STDOUT_FILENO, b": header ");
+fn title(rt: &impl Print, row: [u32; 4]) -> io::Result<()> {
+    named(rt, b"order ", row[0])?;
+    named(rt, b" a ", row[1])?;
+    named(rt, b" b ", row[2])?;
+    named(rt, b" c ", row[3])?;
+    rt.write_all(b": header ")
 }
 
 // Reads a file, and writes the header that it has; a refusal to read is told.
-fn rewrite(out: &mut [u8], file: &[u8]) -> Verdict {
+fn rewrite(rt: &impl Print, out: &mut [u8], file: &[u8]) -> io::Result<Verdict> {
     let mut lines8 = [0u16; 8192];
     let mut xs = [0u32; 8192];
     let mut ys = [0u32; 8192];
@@ -74,17 +74,22 @@ fn rewrite(out: &mut [u8], file: &[u8]) -> Verdict {
     let r = reader::read(file);
     let h = r.header;
     let v = r.verdict;
-    tell(v, b", read");
+    tell(rt, v, b", read")?;
     tell(
+        rt,
         reader::read_shifts(file, &mut lines8, &mut xs, &mut ys),
         b"",
-    );
-    tell(reader::read_times(file, &mut lines9, &mut times), b"");
-    tell(reader::read_errors(file, &mut lines10, &mut pixels), b"");
+    )?;
+    tell(rt, reader::read_times(file, &mut lines9, &mut times), b"")?;
+    tell(
+        rt,
+        reader::read_errors(file, &mut lines10, &mut pixels),
+        b"",
+    )?;
     let a = header::a_of(file) as usize;
     let b = header::b_of(file) as usize;
     let c = header::c_of(file) as usize;
-    writer::write(
+    Ok(writer::write(
         out,
         h,
         lists::part16(&lines8, 0, a),
@@ -94,43 +99,45 @@ fn rewrite(out: &mut [u8], file: &[u8]) -> Verdict {
         lists::part64(&times, b),
         lists::part16(&lines10, 0, c),
         lists::part16(&pixels, 0, c),
-    )
+    ))
 }
 
 // Reads a file of n bytes of header, and writes that header again. kept: whether the first output's rest was.
-fn again(file: &[u8], n: usize, kept: bool) {
+fn again(rt: &impl Print, file: &[u8], n: usize, kept: bool) -> io::Result<()> {
     let mut out = [BLANK; 60000];
-    tell(accept::verdict(file), b", accepted");
-    tell(rewrite(&mut out, file), b", written again ");
+    tell(rt, accept::verdict(file), b", accepted")?;
+    tell(rt, rewrite(rt, &mut out, file)?, b", written again ")?;
     let same = wire::same(wire::piece(file, 0, n), wire::piece(&out, 0, n));
-    tell_whether(same, b"the same", b"OTHERWISE");
+    tell_whether(rt, same, b"the same", b"OTHERWISE")?;
     tell_whether(
+        rt,
         kept & blank_from(&out, n),
         b", rest kept\n",
         b", REST CHANGED\n",
-    );
+    )
 }
 
-fn show(row: [u32; 4]) {
+fn show(rt: &impl Print, row: [u32; 4]) -> io::Result<()> {
     let order = (row[0] % 256) as u8;
     let a = row[1] as usize;
     let b = row[2] as usize;
     let c = row[3] as usize;
     let mut out = [BLANK; 60000];
     let counts = COUNTS;
-    title(row);
+    title(rt, row)?;
     let v = lists::write(&mut out, order, a, b, c);
     // the length that the header states of itself
     let n = wire::u32_at(&out, 70, order) as usize;
-    io::print_decimal(STDOUT_FILENO, n as u64);
-    tell(v, b", written");
+    print!(rt; "{n}")?;
+    tell(rt, v, b", written")?;
     let kept = blank_from(&out, n);
     wire::put(&mut out, n, &counts);
-    again(wire::piece(&out, 0, n + 16), n, kept);
+    again(rt, wire::piece(&out, 0, n + 16), n, kept)
 }
 
-pub(crate) fn run() {
+pub(crate) fn run(rt: &impl Print) -> io::Result<()> {
     for i in 0..16 {
-        show(CASES[i]);
+        show(rt, CASES[i])?;
     }
+    Ok(())
 }

@@ -1,6 +1,6 @@
 // What counts read as.
-use libc::STDOUT_FILENO;
 use reading::Reading;
+use std::io;
 
 // The bits of floats that several cases have.
 const HALF: u64 = 0x3fe0_0000_0000_0000;
@@ -81,43 +81,46 @@ const COUNTS: [[u64; 4]; 44] = [
 ];
 
 // A radiance by its bits. A NaN has none of its own to ask for, and is never expected.
-fn answer_radiance(v: f64) {
-    io::write_all(STDOUT_FILENO, b"radiance ");
+fn answer_radiance(rt: &impl Print, v: f64) -> io::Result<()> {
+    rt.write_all(b"radiance ")?;
     if v != v {
-        io::write_all(STDOUT_FILENO, b"NaN");
-        return;
+        return rt.write_all(b"NaN");
     }
-    io::print_hex(STDOUT_FILENO, f64::to_bits(v), 16);
+    print!(rt; "{:016x}", f64::to_bits(v))
 }
 
-fn answer(r: Reading) {
+fn answer(rt: &impl Print, r: Reading) -> io::Result<()> {
     match r {
-        Reading::Radiance(v) => return answer_radiance(v),
-        Reading::ErrorPixel => io::write_all(STDOUT_FILENO, b"error pixel"),
-        Reading::Outside => io::write_all(STDOUT_FILENO, b"outside"),
-        Reading::OverRange => io::write_all(STDOUT_FILENO, b"over range"),
-        Reading::Uncalibrated => io::write_all(STDOUT_FILENO, b"uncalibrated"),
-    };
+        Reading::Radiance(v) => answer_radiance(rt, v),
+        Reading::ErrorPixel => rt.write_all(b"error pixel"),
+        Reading::Outside => rt.write_all(b"outside"),
+        Reading::OverRange => rt.write_all(b"over range"),
+        Reading::Uncalibrated => rt.write_all(b"uncalibrated"),
+    }
 }
 
-fn show(row: [u64; 4]) {
+fn show(rt: &impl Print, row: [u64; 4]) -> io::Result<()> {
     let bits = (row[2] % 65536) as u16;
     let count = (row[3] % 65536) as u16;
-    io::write_all(STDOUT_FILENO, b"count ");
-    io::print_hex(STDOUT_FILENO, row[0], 16);
-    io::write_all(STDOUT_FILENO, b" ");
-    io::print_hex(STDOUT_FILENO, row[1], 16);
-    io::write_all(STDOUT_FILENO, b" ");
-    io::print_decimal(STDOUT_FILENO, bits as u64);
-    io::write_all(STDOUT_FILENO, b" ");
-    io::print_decimal(STDOUT_FILENO, count as u64);
-    io::write_all(STDOUT_FILENO, b": ");
-    answer(reading::read(reading::calibration_of(row[0], row[1], bits), count));
-    io::write_all(STDOUT_FILENO, b"\n");
+    rt.write_all(b"count ")?;
+    print!(rt; "{:016x}", row[0])?;
+    rt.write_all(b" ")?;
+    print!(rt; "{:016x}", row[1])?;
+    rt.write_all(b" ")?;
+    print!(rt; "{bits}")?;
+    rt.write_all(b" ")?;
+    print!(rt; "{count}")?;
+    rt.write_all(b": ")?;
+    answer(
+        rt,
+        reading::read(reading::calibration_of(row[0], row[1], bits), count),
+    )?;
+    rt.write_all(b"\n")
 }
 
-pub(crate) fn run() {
+pub(crate) fn run(rt: &impl Print) -> io::Result<()> {
     for i in 0..44 {
-        show(COUNTS[i]);
+        show(rt, COUNTS[i])?;
     }
+    Ok(())
 }

@@ -1,8 +1,8 @@
 // Dates as Modified Julian Days.
 use crate::shots;
 use calendar::Dated;
-use libc::STDOUT_FILENO;
 use rules::{Refusal, Why};
+use std::io;
 
 // Year, month and day.
 const DATES: [[u32; 3]; 24] = [
@@ -36,31 +36,35 @@ const DATES: [[u32; 3]; 24] = [
 ];
 
 // A date that does not exist breaks the rule of the name, in block 1.
-fn answer(d: Dated) {
+fn answer(rt: &impl Print, d: Dated) -> io::Result<()> {
     match d {
-        Dated::Day(day) => io::print_decimal(STDOUT_FILENO, day as u64),
-        Dated::NoSuchDate => shots::refuse(Refusal {
-            why: Why::Name,
-            block: 1,
-            offset: 0,
-        }),
-    };
-}
-
-fn show(row: [u32; 3]) {
-    io::write_all(STDOUT_FILENO, b"date ");
-    io::print_decimal(STDOUT_FILENO, row[0] as u64);
-    io::write_all(STDOUT_FILENO, b" ");
-    io::print_decimal(STDOUT_FILENO, row[1] as u64);
-    io::write_all(STDOUT_FILENO, b" ");
-    io::print_decimal(STDOUT_FILENO, row[2] as u64);
-    io::write_all(STDOUT_FILENO, b": ");
-    answer(calendar::day_of(row[0], row[1], row[2]));
-    io::write_all(STDOUT_FILENO, b"\n");
-}
-
-pub(crate) fn run() {
-    for i in 0..24 {
-        show(DATES[i]);
+        Dated::Day(day) => print!(rt; "{day}"),
+        Dated::NoSuchDate => shots::refuse(
+            rt,
+            Refusal {
+                why: Why::Name,
+                block: 1,
+                offset: 0,
+            },
+        ),
     }
+}
+
+fn show(rt: &impl Print, row: [u32; 3]) -> io::Result<()> {
+    rt.write_all(b"date ")?;
+    print!(rt; "{}", row[0])?;
+    rt.write_all(b" ")?;
+    print!(rt; "{}", row[1])?;
+    rt.write_all(b" ")?;
+    print!(rt; "{}", row[2])?;
+    rt.write_all(b": ")?;
+    answer(rt, calendar::day_of(row[0], row[1], row[2]))?;
+    rt.write_all(b"\n")
+}
+
+pub(crate) fn run(rt: &impl Print) -> io::Result<()> {
+    for i in 0..24 {
+        show(rt, DATES[i])?;
+    }
+    Ok(())
 }

@@ -1,7 +1,7 @@
 // Shots: their slots, and their numbers on the film.
 use calendar::{FilmFrame, Slotted};
-use libc::STDOUT_FILENO;
 use rules::Refusal;
+use std::io;
 
 // Day and timeline.
 const SHOTS: [[u32; 2]; 17] = [
@@ -53,72 +53,74 @@ fn timeline_of(x: u32) -> u16 {
     (x % 65536) as u16
 }
 
-fn show_shot(day: u32, timeline: u16) {
-    io::write_all(STDOUT_FILENO, b" ");
-    io::print_decimal(STDOUT_FILENO, day as u64);
-    io::write_all(STDOUT_FILENO, b" ");
-    io::print_decimal(STDOUT_FILENO, timeline as u64);
+fn show_shot(rt: &impl Print, day: u32, timeline: u16) -> io::Result<()> {
+    rt.write_all(b" ")?;
+    print!(rt; "{day}")?;
+    rt.write_all(b" ")?;
+    print!(rt; "{timeline}")
 }
 
-// Tells of a refusal, and answers as the kit's printers do: whether it was written.
-pub(crate) fn refuse(t: Refusal) -> bool {
+// Tells of a refusal.
+pub(crate) fn refuse(rt: &impl Print, t: Refusal) -> io::Result<()> {
     let mut room = [0u8; 64];
     let n = listing::refusal(&mut room, t);
-    io::write_all(STDOUT_FILENO, wire::piece(&room, 0, n))
+    rt.write_all(wire::piece(&room, 0, n))
 }
 
 // A number that may be negative.
-fn signed(n: i64) -> bool {
+fn signed(rt: &impl Print, n: i64) -> io::Result<()> {
     if n < 0 {
-        io::write_all(STDOUT_FILENO, b"-");
+        rt.write_all(b"-")?;
         // -n itself does not fit where n is the lowest number
-        return io::print_decimal(STDOUT_FILENO, ((-1 - n) as u64) + 1);
+        return print!(rt; "{}", ((-1 - n) as u64) + 1);
     }
-    io::print_decimal(STDOUT_FILENO, n as u64)
+    print!(rt; "{n}")
 }
 
-fn answer_slot(s: Slotted) {
+fn answer_slot(rt: &impl Print, s: Slotted) -> io::Result<()> {
     match s {
-        Slotted::Slot(n) => io::print_decimal(STDOUT_FILENO, n),
-        Slotted::Refused(t) => refuse(t),
-    };
-}
-
-fn show_slot(row: [u32; 2]) {
-    let timeline = timeline_of(row[1]);
-    io::write_all(STDOUT_FILENO, b"slot");
-    show_shot(row[0], timeline);
-    io::write_all(STDOUT_FILENO, b": ");
-    answer_slot(calendar::slot(row[0], timeline));
-    io::write_all(STDOUT_FILENO, b"\n");
-}
-
-pub(crate) fn run_slots() {
-    for i in 0..17 {
-        show_slot(SHOTS[i]);
+        Slotted::Slot(n) => print!(rt; "{n}"),
+        Slotted::Refused(t) => refuse(rt, t),
     }
 }
 
-fn answer_film(f: FilmFrame) {
-    match f {
-        FilmFrame::Number(n) => signed(n),
-        FilmFrame::Refused(t) => refuse(t),
-    };
+fn show_slot(rt: &impl Print, row: [u32; 2]) -> io::Result<()> {
+    let timeline = timeline_of(row[1]);
+    rt.write_all(b"slot")?;
+    show_shot(rt, row[0], timeline)?;
+    rt.write_all(b": ")?;
+    answer_slot(rt, calendar::slot(row[0], timeline))?;
+    rt.write_all(b"\n")
 }
 
-fn show_film(row: [u32; 4]) {
+pub(crate) fn run_slots(rt: &impl Print) -> io::Result<()> {
+    for i in 0..17 {
+        show_slot(rt, SHOTS[i])?;
+    }
+    Ok(())
+}
+
+fn answer_film(rt: &impl Print, f: FilmFrame) -> io::Result<()> {
+    match f {
+        FilmFrame::Number(n) => signed(rt, n),
+        FilmFrame::Refused(t) => refuse(rt, t),
+    }
+}
+
+fn show_film(rt: &impl Print, row: [u32; 4]) -> io::Result<()> {
     let first = timeline_of(row[1]);
     let timeline = timeline_of(row[3]);
-    io::write_all(STDOUT_FILENO, b"film");
-    show_shot(row[0], first);
-    show_shot(row[2], timeline);
-    io::write_all(STDOUT_FILENO, b": ");
-    answer_film(calendar::frame_number(row[0], first, row[2], timeline));
-    io::write_all(STDOUT_FILENO, b"\n");
+    rt.write_all(b"film")?;
+    show_shot(rt, row[0], first)?;
+    show_shot(rt, row[2], timeline)?;
+    rt.write_all(b": ")?;
+    answer_film(rt, calendar::frame_number(row[0], first, row[2], timeline))?;
+    rt.write_all(b"\n")
 }
 
-pub(crate) fn run_films() {
+pub(crate) fn run_films(rt: &impl Print) -> io::Result<()> {
     for i in 0..12 {
-        show_film(PAIRS[i]);
+        show_film(rt, PAIRS[i])?;
     }
+    Ok(())
 }

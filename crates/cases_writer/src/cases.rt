@@ -5,6 +5,7 @@ use crate::change::{
     TIMES, TOTAL,
 };
 use crate::show;
+use std::io;
 
 const CASES: [usize; 86] = [
     NOTHING,
@@ -104,8 +105,9 @@ const CASES: [usize; 86] = [
 ];
 
 // The last number is a further change, and begins no case.
-pub(crate) fn run() {
+pub(crate) fn run(rt: &impl Print) -> io::Result<()> {
     for i in 0..85 {
-        show::case(CASES[i], CASES[i + 1]);
+        show::case(rt, CASES[i], CASES[i + 1])?;
     }
+    Ok(())
 }

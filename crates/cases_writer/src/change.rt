@@ -2,7 +2,7 @@
 // A number begins a case, and one with AND after it is a further change of that case.
 ghost use Rattle.std.specs.Prelude.{◌<◌};
 
-use libc::STDOUT_FILENO;
+use std::io;
 
 // What is changed is a multiple of this.
 const WHAT: usize = 0x1_0000_0000;
@@ -124,28 +124,26 @@ pub(crate) fn either(x: usize, y: usize, thing: usize, old: usize) -> usize {
 }
 
 // A byte of the name as its place and letter.
-fn tell_glyph(x: usize) {
+fn tell_glyph(rt: &impl Print, x: usize) -> io::Result<()> {
     let glyph = [byte(x)];
-    io::print_decimal(STDOUT_FILENO, (x / 256) as u64);
-    io::write_all(STDOUT_FILENO, b" '");
-    io::write_all(STDOUT_FILENO, &glyph);
-    io::write_all(STDOUT_FILENO, b"'");
+    print!(rt; "{}", x / 256)?;
+    rt.write_all(b" '")?;
+    rt.write_all(&glyph)?;
+    rt.write_all(b"'")
 }
 
-fn tell_letters(n: u32) {
+fn tell_letters(rt: &impl Print, n: u32) -> io::Result<()> {
     let b = wire::four_bytes(n, 1);
-    io::write_all(STDOUT_FILENO, &b);
+    rt.write_all(&b)
 }
 
-fn tell_value(x: usize) {
+fn tell_value(rt: &impl Print, x: usize) -> io::Result<()> {
     let n = value(x);
-    io::write_all(STDOUT_FILENO, b" ");
+    rt.write_all(b" ")?;
     match what(x) {
-        AREA => tell_letters(n as u32),
-        NAME => tell_glyph(n),
-        _ => {
-            io::print_decimal(STDOUT_FILENO, n as u64);
-        }
+        AREA => tell_letters(rt, n as u32),
+        NAME => tell_glyph(rt, n),
+        _ => print!(rt; "{n}"),
     }
 }
 
@@ -155,13 +153,11 @@ pub(crate) fn further(x: usize) -> usize {
 }
 
 // Tells of a change, or that there is none.
-pub(crate) fn tell(x: usize) {
+pub(crate) fn tell(rt: &impl Print, x: usize) -> io::Result<()> {
     let names = NAMES;
-    io::write_all(
-        STDOUT_FILENO,
-        say::trimmed(wire::piece(&names, 20 * (x / WHAT % 26), 20)),
-    );
+    rt.write_all(say::trimmed(wire::piece(&names, 20 * (x / WHAT % 26), 20)))?;
     if x != NOTHING {
-        tell_value(x);
+        tell_value(rt, x)?;
     }
+    Ok(())
 }

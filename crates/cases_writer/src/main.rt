@@ -1,3 +1,4 @@
+#![tactic(auto)]
 // Gives the writer values that it turns away, and good ones beside them.
 // It writes a line for each case: what is given, then the answer. The answers in the file stdout were worked out apart from this code.
 mod cases;
@@ -5,6 +6,8 @@ mod change;
 mod given;
 mod show;
 
-fn main() {
-    cases::run();
+use std::io;
+
+fn main(rt: HostRuntime) -> io::Result<()> {
+    cases::run(&rt)
 }

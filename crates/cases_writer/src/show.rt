@@ -4,8 +4,8 @@ use crate::change::{
 };
 use crate::{change, given};
 use header::Header;
-use libc::STDOUT_FILENO;
 use rules::Verdict;
+use std::io;
 
 // The byte that every output is filled with before a case: it shows what was kept.
 const BLANK: u8 = 0xaa;
@@ -61,36 +61,35 @@ fn write_in(out: &mut [u8], x: usize, y: usize) -> Verdict {
 }
 
 // What became of the output: every header that is written here has 1,535 bytes.
-fn ending(out: &[u8]) {
+fn ending(rt: &impl Print, out: &[u8]) -> io::Result<()> {
     let kept = [BLANK; OUTPUT];
     if wire::same(out, &kept) {
-        io::write_all(STDOUT_FILENO, b", output kept\n");
-        return;
+        return rt.write_all(b", output kept\n");
     }
     let same = wire::same(wire::rest(out, 1535), wire::rest(&kept, 1535));
     if same {
-        io::write_all(STDOUT_FILENO, b", rest kept\n");
+        rt.write_all(b", rest kept\n")
     } else {
-        io::write_all(STDOUT_FILENO, b", REST CHANGED\n");
+        rt.write_all(b", REST CHANGED\n")
     }
 }
 
 // The case that a number begins, if it does.
-pub(crate) fn case(x: usize, next: usize) {
+pub(crate) fn case(rt: &impl Print, x: usize, next: usize) -> io::Result<()> {
     if AND <= x {
-        return;
+        return Ok(());
     }
     let y = change::further(next);
     let mut out = [BLANK; OUTPUT];
     let mut room = [0u8; 64];
-    change::tell(x);
+    change::tell(rt, x)?;
     if y != NOTHING {
-        io::write_all(STDOUT_FILENO, b", ");
-        change::tell(y);
+        rt.write_all(b", ")?;
+        change::tell(rt, y)?;
     }
-    io::write_all(STDOUT_FILENO, b": ");
+    rt.write_all(b": ")?;
     let v = write_in(&mut out, x, y);
     let n = say::verdict(&mut room, v, b"written");
-    io::write_all(STDOUT_FILENO, wire::piece(&room, 0, n));
-    ending(&out);
+    rt.write_all(wire::piece(&room, 0, n))?;
+    ending(rt, &out)
 }

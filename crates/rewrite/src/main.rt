@@ -1,3 +1,4 @@
+#![tactic(auto)]
 // Has any bytes read by the four readers, and writes what they read: the host tests compare its answers with an independent reader and writer.
 // Numbers are little-endian. A request: the image's length, the output's length, how many entries each slice lent to a reader has room for
 // (beyond 65,536 counts as that), 4 bytes each, and the image. Its answer: what reader::read, read_shifts, read_times, read_errors and the writer say,
@@ -7,8 +8,10 @@ mod entries;
 mod raw;
 mod serve;
 
+use std::io;
+
 // The image, the output and the entries have their places here, and are lent to every request.
-fn main() {
+fn main(rt: HostRuntime) -> io::Result<()> {
     let mut image = [0u8; 65536];
     let mut out = [0u8; 400000];
     let mut lines8 = [0u16; 65536];
@@ -19,6 +22,7 @@ fn main() {
     let mut lines10 = [0u16; 65536];
     let mut pixels = [0u16; 65536];
     serve::run(
+        &rt,
         &mut image,
         &mut out,
         &mut lines8,
@@ -28,5 +32,5 @@ fn main() {
         &mut times,
         &mut lines10,
         &mut pixels,
-    );
+    )
 }

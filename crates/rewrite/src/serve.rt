@@ -1,11 +1,12 @@
 // Requests, one after the other, and their answers.
 use crate::{entries, raw};
 use header::Header;
-use libc::{STDIN_FILENO, STDOUT_FILENO};
 use rules::Verdict;
+use std::io;
+use std::io::{ErrorKind, Read};
 
 // How long a request's image and output are, and how many entries each lent list has room for.
-#[derive(Drop)]
+#[derive(Clone, Copy)]
 struct Request {
     image: usize,
     output: usize,
@@ -96,9 +97,9 @@ fn write(
     )
 }
 
-fn send(notes: &[u8; 30], out: &[u8]) {
-    io::write_all(STDOUT_FILENO, notes);
-    io::write_all(STDOUT_FILENO, out);
+fn send(rt: &impl Print, notes: &[u8; 30], out: &[u8]) -> io::Result<()> {
+    rt.write_all(notes)?;
+    rt.write_all(out)
 }
 
 // No request: no output is so long.
@@ -110,36 +111,51 @@ fn none() -> Request {
     }
 }
 
-// Reads an image of n bytes into its place, and says whether it is there.
-fn heard(image: &mut [u8], n: usize) -> bool {
-    if image.len() < n {
-        return false;
+// Fills a buffer from the input, and says whether there was as much of it.
+fn filled(input: &mut impl Read, buf: &mut [u8]) -> io::Result<bool> {
+    match input.read_exact(buf) {
+        Ok(()) => Ok(true),
+        Err(e) => {
+            if e.kind() == ErrorKind::UnexpectedEof {
+                Ok(false)
+            } else {
+                Err(e)
+            }
+        }
     }
-    io::read_full(STDIN_FILENO, &mut image[0..n]) == n
+}
+
+// Reads an image of n bytes into its place, and says whether it is there.
+fn heard(input: &mut impl Read, image: &mut [u8], n: usize) -> io::Result<bool> {
+    if image.len() < n {
+        return Ok(false);
+    }
+    filled(input, &mut image[0..n])
 }
 
 // Reads the next request, its image into its place.
-fn asked(image: &mut [u8]) -> Request {
+fn asked(input: &mut impl Read, image: &mut [u8]) -> io::Result<Request> {
     let mut sizes = [0u8; 12];
-    if io::read_full(STDIN_FILENO, &mut sizes) < 12 {
-        return none();
+    if !filled(input, &mut sizes)? {
+        return Ok(none());
     }
     let n = wire::u32_at(&sizes, 0, 0) as usize;
     let output = wire::u32_at(&sizes, 4, 0) as usize;
     let room = wire::u32_at(&sizes, 8, 0) as usize;
-    if !heard(image, n) {
-        return none();
+    if !heard(input, image, n)? {
+        return Ok(none());
     }
-    Request {
+    Ok(Request {
         image: n,
         output,
         room,
-    }
+    })
 }
 
 // Answers one request: what the readers say, what the writer says, and the output. Says whether there was one:
 // a length that is more than its place holds ends the requests, too.
 fn answer(
+    rt: &impl Print,
     image: &[u8],
     n: Request,
     out: &mut [u8],
@@ -150,11 +166,11 @@ fn answer(
     times: &mut [u64; 65536],
     lines10: &mut [u16; 65536],
     pixels: &mut [u16; 65536],
-) -> bool {
+) -> io::Result<bool> {
     let s = wire::piece(image, 0, n.image);
     let length = n.output;
     if out.len() < length {
-        return false;
+        return Ok(false);
     }
     let out = &mut out[0..length];
     let mut notes = [0u8; 30];
@@ -163,12 +179,13 @@ fn answer(
     );
     let v = write(s, out, h, lines8, xs, ys, lines9, times, lines10, pixels);
     fine(&mut notes, 24, v);
-    send(&notes, out);
-    true
+    send(rt, &notes, out)?;
+    Ok(true)
 }
 
 // Answers requests to the end of the input: so many at most, so that it ends.
 pub(crate) fn run(
+    rt: &(impl Input + Print),
     image: &mut [u8; 65536],
     out: &mut [u8; 400000],
     lines8: &mut [u16; 65536],
@@ -178,13 +195,15 @@ pub(crate) fn run(
     times: &mut [u64; 65536],
     lines10: &mut [u16; 65536],
     pixels: &mut [u16; 65536],
-) {
+) -> io::Result<()> {
+    let mut input = rt.reader();
     for _ in 0..4_000_000u32 {
-        let n = asked(image);
+        let n = asked(&mut input, image)?;
         if !answer(
-            image, n, out, lines8, xs, ys, lines9, times, lines10, pixels,
-        ) {
-            return;
+            rt, image, n, out, lines8, xs, ys, lines9, times, lines10, pixels,
+        )? {
+            return Ok(());
         }
     }
+    Ok(())
 }

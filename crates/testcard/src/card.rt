@@ -7,7 +7,7 @@ use calendar::Slotted;
 use header::Header;
 
 // The frame: its columns, the lines of all its segments, valid bits, and how far the rings have moved.
-#[derive(Drop)]
+#[derive(Clone, Copy)]
 pub struct Frame {
     pub columns: u16,
     pub lines: u32,

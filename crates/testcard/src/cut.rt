@@ -3,10 +3,11 @@
 ghost use Rattle.std.specs.Prelude.{◌≡◌, ◌*◌, ◌≤◌};
 ghost use Rattle.testcard.specs.Cut.{part_of, height_of, lines_to, good_cut, prior_to, lines_of, first_line_of};
 
-use crate::words::{NONE, ahead, behind, number_of, pluses, short};
+use crate::words::{NONE, ahead, arg, behind, number_of, pluses, short};
+use std::rt::Env;
 
 // The lines of a segment, the first of them, and the lines of all segments.
-#[derive(Drop)]
+#[derive(Clone, Copy)]
 pub struct Cut {
     pub lines: u16,
     pub first: u16,
@@ -79,9 +80,9 @@ fn first_of(word: &[u8], number: u8, total: u8) -> u16
 }
 
 // There is room for 99 numbers of five digits; a longer word is none.
-pub(crate) fn read(number: u8, total: u8) -> Cut {
+pub(crate) fn read(rt: &impl Env, number: u8, total: u8) -> Cut {
     let mut room = [0u8; 600];
-    let n = os::arg(7, &mut room);
+    let n = arg(rt, 7, &mut room);
     let word = &room[..n];
     Cut {
         lines: lines_of(word, number, total),

@@ -1,3 +1,4 @@
+#![tactic(auto)]
 // Writes one good segment of any size, a test card, to standard output. Its arguments: satellite, date (yyyymmdd), timeline (hhmm), band,
 // area, columns, lines, number, total and byte order, as in `testcard 8 20150707 0200 13 FLDK 5500 550 3 10 0`. The lines are one number for
 // all segments, or a number for each, as `900+1850+1850+900` of a total of 4. The writer judges them: what it refuses is told in one line on
@@ -12,40 +13,40 @@ mod words;
 
 use card::Frame;
 use header::Header;
-use libc::STDOUT_FILENO;
+use std::io;
 
 // The longest line has 22,000 counts.
 const LINE: usize = 44000;
 
-// Writes the counts of a line, and answers whether they went out.
-fn send_line(line: &mut [u8; LINE], f: Frame, at: u32, order: u8) -> bool {
+// Writes the counts of a line.
+fn send_line(
+    rt: &impl Print,
+    line: &mut [u8; LINE],
+    f: Frame,
+    at: u32,
+    order: u8,
+) -> io::Result<()> {
     card::draw(line, f, at, order);
-    io::write_all(
-        STDOUT_FILENO,
-        wire::piece(line, 0, 2 * (f.columns as usize)),
-    )
+    rt.write_all(wire::piece(line, 0, 2 * (f.columns as usize)))
 }
 
 // Writes the counts of a segment, line by line.
-fn send_counts(f: Frame, first: u16, lines: u16, order: u8) -> bool {
+fn send_counts(rt: &impl Print, f: Frame, first: u16, lines: u16, order: u8) -> io::Result<()> {
     let mut line = [0u8; LINE];
     for i in 0..lines {
-        if !send_line(&mut line, f, first as u32 + i as u32, order) {
-            return false;
-        }
+        send_line(rt, &mut line, f, first as u32 + i as u32, order)?;
     }
-    true
+    Ok(())
 }
 
 // Writes a header that the writer took, and its counts, of a frame of so many lines.
-fn send(out: &[u8], h: Header, all: u32) -> bool {
+fn send(rt: &impl Print, out: &[u8], h: Header, all: u32) -> io::Result<()> {
     let block1 = h.block1;
     let block2 = h.block2;
     let block7 = h.block7;
-    if !io::write_all(STDOUT_FILENO, out) {
-        return false;
-    }
+    rt.write_all(out)?;
     send_counts(
+        rt,
         card::frame_of(h, all),
         block7.first,
         block2.lines,
@@ -53,20 +54,20 @@ fn send(out: &[u8], h: Header, all: u32) -> bool {
     )
 }
 
-fn main() {
-    if os::arg_count() != 11 {
-        faults::usage();
-        return;
+fn main(rt: HostRuntime) -> io::Result<()> {
+    if !words::are_ten(&rt) {
+        return faults::usage(&rt);
     }
-    let a = words::read();
-    let cut = cut::read(a.number, a.total);
+    let a = words::read(&rt);
+    let cut = cut::read(&rt, a.number, a.total);
     let h = values::header_of(a, cut);
     let mut out = [0u8; 1463];
     let v = writer::write(&mut out, h, &[], &[], &[], &[], &[], &[], &[]);
-    if faults::told(v) {
-        return;
+    if faults::told(&rt, v)? {
+        return Ok(());
     }
-    if !send(&out, h, cut.all) {
-        os::fail(b"testcard: standard output");
+    match send(&rt, &out, h, cut.all) {
+        Ok(()) => Ok(()),
+        Err(e) => faults::unsent(&rt, e),
     }
 }

@@ -1,9 +1,12 @@
 // The program's arguments, each as the value that it must be. A word that is none becomes a value that the writer refuses.
-ghost use Rattle.std.specs.Prelude.{◌≡◌, min};
+ghost use Rattle.std.specs.Prelude.{◌≡◌, ◌≤◌, min, length};
 ghost use Rattle.testcard.specs.Words.{longer_by, number_of, pluses_in, ahead_of, behind_of};
 
+use std::env::FillError;
+use std::rt::Env;
+
 // What was asked for, but for the lines.
-#[derive(Drop)]
+#[derive(Clone, Copy)]
 pub struct Asked {
     pub satellite: u16,
     pub date: [u8; 8],
@@ -96,47 +99,67 @@ pub(crate) fn behind(word: &[u8], k: u8) -> &[u8]
     &word[..0]
 }
 
-fn number(i: usize) -> u16 {
+// Puts an argument at the start of a buffer, and answers how many bytes it has: none where it is missing, or longer than the buffer.
+pub(crate) fn arg(rt: &impl Env, i: usize, buf: &mut [u8]) -> usize
+    ensures { result ≤ length buf.new }
+{
+    match rt.arg(i, buf) {
+        Ok(n) => n,
+        Err(_) => 0,
+    }
+}
+
+fn is_there(rt: &impl Env, i: usize) -> bool {
+    let mut none = [0u8; 0];
+    !matches!(rt.arg(i, &mut none), Err(FillError::NotPresent))
+}
+
+// Whether there are ten arguments; the program's name is argument 0.
+pub(crate) fn are_ten(rt: &impl Env) -> bool {
+    is_there(rt, 10) & !is_there(rt, 11)
+}
+
+fn number(rt: &impl Env, i: usize) -> u16 {
     let mut word = [0u8; 8];
-    let n = os::arg(i, &mut word);
+    let n = arg(rt, i, &mut word);
     number_of(&word[..n])
 }
 
 // The same in a byte; 255 is out of range where 65,535 is.
-fn small_number(i: usize) -> u8 {
-    let n = number(i);
+fn small_number(rt: &impl Env, i: usize) -> u8 {
+    let n = number(rt, i);
     if n <= 255 { n as u8 } else { 255 }
 }
 
 // The letters of an argument that has so many of them.
-fn letters4(i: usize) -> [u8; 4] {
+fn letters4(rt: &impl Env, i: usize) -> [u8; 4] {
     let mut word = [0u8; 4];
-    if os::arg(i, &mut word) == 4 {
+    if arg(rt, i, &mut word) == 4 {
         word
     } else {
         [0; 4]
     }
 }
 
-fn letters8(i: usize) -> [u8; 8] {
+fn letters8(rt: &impl Env, i: usize) -> [u8; 8] {
     let mut word = [0u8; 8];
-    if os::arg(i, &mut word) == 8 {
+    if arg(rt, i, &mut word) == 8 {
         word
     } else {
         [0; 8]
     }
 }
 
-pub(crate) fn read() -> Asked {
+pub(crate) fn read(rt: &impl Env) -> Asked {
     Asked {
-        satellite: number(1),
-        date: letters8(2),
-        timeline: number(3),
-        band: number(4),
-        area: letters4(5),
-        columns: number(6),
-        number: small_number(8),
-        total: small_number(9),
-        order: small_number(10),
+        satellite: number(rt, 1),
+        date: letters8(rt, 2),
+        timeline: number(rt, 3),
+        band: number(rt, 4),
+        area: letters4(rt, 5),
+        columns: number(rt, 6),
+        number: small_number(rt, 8),
+        total: small_number(rt, 9),
+        order: small_number(rt, 10),
     }
 }

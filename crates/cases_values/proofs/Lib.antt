@@ -1,2 +1,0 @@
--- The law of the proof of `signed`.
-mod Distance
