@@ -17,8 +17,7 @@
      8  why: an HsdSlate as it stands in memory, then the file; the answer is an HsdWhy as it stands in memory.
    A verdict is an HsdAnswer in six bytes: refusal, block, and four for the offset with the lowest first. A question of
    another number, with bytes that are too few, or with bytes that have no meaning behind those of 0, 5 and 6 ends the
-   bridge with status 1. Built with the kit's own compiler, which has no headers: what is used of C is
-   declared here. */
+   bridge with status 1. What is used of C is declared here. */
 typedef unsigned char u8;
 typedef unsigned short u16;
 typedef unsigned int u32;

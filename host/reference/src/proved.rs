@@ -53,8 +53,7 @@ impl Bridge {
     /// Starts the program that `host/bridge/build` made.
     pub fn start() -> Bridge {
         let root = concat!(env!("CARGO_MANIFEST_DIR"), "/../..");
-        let mut child = Command::new(format!("{root}/host/run"))
-            .arg(format!("{root}/target/host/bridge"))
+        let mut child = Command::new(format!("{root}/target/host/bridge"))
             .stdin(Stdio::piped())
             .stdout(Stdio::piped())
             .spawn()

@@ -53,8 +53,7 @@ fn main() {
 /// Starts the program that reads, and writes what it read.
 fn start() -> (Child, ChildStdin, BufReader<ChildStdout>) {
     let root = concat!(env!("CARGO_MANIFEST_DIR"), "/../..");
-    let mut child = Command::new(format!("{root}/host/run"))
-        .arg(format!("{root}/target/bin/rewrite"))
+    let mut child = Command::new(format!("{root}/crates/rewrite/out/rewrite"))
         .stdin(Stdio::piped())
         .stdout(Stdio::piped())
         .spawn()
