@@ -6,7 +6,7 @@ use Rattle.slate.specs.Slates.{good_slate, frame_lines, has_line, cover_or_0}
 use Rattle.slate.proofs.Cuts.{covers, good}
 use Rattle.slate.proofs.Slate.height_of.Reads as height_of
 use Rattle.slate.proofs.Slate.lines_to.Reads as lines_to
-use Rattle.slate.proofs.Slate.size_of.Reads as type_size
+use Rattle.slate.proofs.Slate.size_of.Reads as size_of_reads
 use Rattle.slate.proofs.Slate.start_of.Reads as start_of_reads
 use Rattle.slate.proofs.Slate.frame_size.Reads as frame_size
 use Rattle.slate.proofs.Slate.has_line.Reads as has_line_reads
@@ -27,7 +27,7 @@ height_answered κ a r t p = p ∙ height_is a.0 a.1.0
 pub lines_answered : (κ : _) (a : _) (r : _) (t : _) → lines_to.Post κ a r t → r ≡ lines_of a.0 a.1.0
 lines_answered κ a r t p = p ∙ lines_are a.0 a.1.0
 
-pub size : (κ : _) (a : _) (r : _) (t : _) → type_size.Post κ a r t → r ≡ height a.0 a.1.0 * a.0.columns
+pub size : (κ : _) (a : _) (r : _) (t : _) → size_of_reads.Post κ a r t → r ≡ height a.0 a.1.0 * a.0.columns
 size κ a r t p = p ∙ rw (height_is a.0 a.1.0)
 
 -- segment k begins one line after segments 1 to k - 1 end

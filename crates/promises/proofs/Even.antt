@@ -7,7 +7,7 @@ use Rattle.accept.specs.Checks.{checks}
 use Rattle.accept.specs.Answers.{facts_of}
 use Rattle.accept.proofs.Known.{known}
 use Rattle.slate.specs.declared.Slate.{Slate}
-use Rattle.slate.proofs.Slate.size_of.Reads as type_size
+use Rattle.slate.proofs.Slate.size_of.Reads as size_of_reads
 use Rattle.slate.proofs.Slate.start_of.Reads as start_of_reads
 use Rattle.slate.proofs.Slate.frame_size.Reads as frame_size
 use Rattle.slate.proofs.Slate.cover_of.Reads as cover_of_reads
@@ -113,7 +113,7 @@ module _ (s : Slate) (ev : Even s) where
 
 -- ---- so the functions' answers are document 01's formulas
 
-module _ (κ : _) (a : _) (r : _) (t : _) (p : type_size.Post κ a r t) (ev : Even a.0) where
+module _ (κ : _) (a : _) (r : _) (t : _) (p : size_of_reads.Post κ a r t) (ev : Even a.0) where
   pub size : 1 ≤ a.1.0 → a.1.0 ≤ a.0.total → r ≡ lines_each a.0 * a.0.columns
   size b c = cut.size κ a r t p ∙ rw (each a.0 ev a.1.0 b c)
 

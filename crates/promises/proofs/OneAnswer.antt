@@ -71,7 +71,7 @@ use Rattle.slate.proofs.Slate.height_of.Reads as height_of
 use Rattle.slate.proofs.Slate.lines_to.Reads as lines_to
 use Rattle.slate.proofs.Slate.columns.Reads as slate_columns
 use Rattle.slate.proofs.Slate.total.Reads as slate_total
-use Rattle.slate.proofs.Slate.size_of.Reads as type_size
+use Rattle.slate.proofs.Slate.size_of.Reads as size_of
 use Rattle.slate.proofs.Slate.start_of.Reads as start_of
 use Rattle.slate.proofs.Slate.frame_size.Reads as frame_size
 use Rattle.slate.proofs.Slate.place_of.Reads as place_of
@@ -334,7 +334,7 @@ slate_columns_one κ a x y s t p q = p ∙ sym q
 pub slate_total_one : One (λ κ x s. x) slate_total.Post
 slate_total_one κ a x y s t p q = p ∙ sym q
 
-pub size_of_one : One (λ κ x s. x) type_size.Post
+pub size_of_one : One (λ κ x s. x) size_of.Post
 size_of_one κ a x y s t p q = p ∙ sym q
 
 pub start_of_one : One (λ κ x s. x) start_of.Post
