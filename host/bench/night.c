@@ -91,8 +91,6 @@ static void read_floats(void *with)
     memcpy(seen, totals, sizeof seen);
 }
 
-/* The library's module in another processor's instructions (host/bench/native) has no hsd_read_count: its answer would come back in other registers. */
-#ifdef __x86_64__
 static void read_each(void *with)
 {
     const Segment *s = with;
@@ -101,7 +99,6 @@ static void read_each(void *with)
         totals[hsd_read_count(s->gain, s->constant, s->bits, count_at(s, i)).kind]++;
     memcpy(seen, totals, sizeof seen);
 }
-#endif
 
 /* The same five totals by both ways, and then their times. */
 static void compare_counting(const char *what, void (*plain)(void *), Segment *s)
@@ -124,10 +121,8 @@ static void time_segment(const char *name)
     compare(what, add, copy, &s);
     snprintf(what, sizeof what, "a %s-endian segment in a run, and plain floats", order);
     compare_counting(what, read_floats, &s);
-#ifdef __x86_64__
     snprintf(what, sizeof what, "a %s-endian segment in a run, and hsd_read_count", order);
     compare_counting(what, read_each, &s);
-#endif
     free(s.file);
     free(s.copy);
 }

@@ -1,9 +1,9 @@
-/* The proved library as a server on standard input and output, so that a test in another language, or on
-   another processor, can ask it. A request is a length, eight bytes with the lowest first, and so many bytes;
-   the answer is an HsdFile as it stands in memory. With only the length's top bit set the answer is instead how
-   many nanoseconds hsd_accept takes on those bytes, as a double. With only the next bit set the request is a
-   History, and the answer what each of its steps answers. With both set the bytes begin with the number of a
-   question, eight bytes with the lowest first, and the rest is the question's own:
+/* The proved library as a server on standard input and output, so that a test in another language can ask it.
+   A request is a length, eight bytes with the lowest first, and so many bytes; the answer is an HsdFile as it
+   stands in memory. With only the length's top bit set the answer is instead how many nanoseconds hsd_accept
+   takes on those bytes, as a double. With only the next bit set the request is a History, and the answer what
+   each of its steps answers. With both set the bytes begin with the number of a question, eight bytes with the
+   lowest first, and the rest is the question's own:
      0  quality: one byte, quality flag 1; the answer is its HsdQuality as it stands in memory.
      1  open: the rest is the reel; the answer is an HsdReel as it stands in memory.
      2  part: eight bytes, the part's number (its low 16 bits), then the reel; the answer is an HsdPart.

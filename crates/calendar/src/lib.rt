@@ -10,21 +10,21 @@ ghost use Rattle.calendar.specs.Shots.{good_day, good_timeline, slot_at, shot, p
 use rules::{Refusal, Verdict, Why};
 
 // The Modified Julian Day of a date.
-#[derive(Drop)]
+#[derive(Clone, Copy)]
 pub enum Dated {
     Day(u32),
     NoSuchDate,
 }
 
 // A shot's slot: how many times ten minutes it lies after the day numbered 0.
-#[derive(Drop)]
+#[derive(Clone, Copy)]
 pub enum Slotted {
     Slot(u64),
     Refused(Refusal),
 }
 
 // A shot's number on the film, counted from the first shot.
-#[derive(Drop)]
+#[derive(Clone, Copy)]
 pub enum FilmFrame {
     Number(i64),
     Refused(Refusal),

@@ -1,6 +1,6 @@
 // Cases as numbers. A number says what is changed, a place of a plan or a field, and the value below 2 to the 32 that it gets.
 // A number with a file in it begins a case, and those with none after it are further changes of that file.
-// A table of cases is one list of numbers: checking a list of lists takes long.
+// A table of cases is one list of numbers: checking a list of lists took long with the older kit.
 ghost use Rattle.std.specs.Prelude.{◌<◌};
 
 // What is changed, and the file, are multiples of these.

@@ -1,5 +1,5 @@
 #![tactic(auto)]
-// What the compositors' plug-in calls from C, thin over the proved library.
+// What the compositors' plug-in calls from C, by way of `panulimbe`, thin over the proved library.
 ghost use Rattle.std.specs.Prelude.{◌≡◌};
 ghost use Rattle.rules.specs.Rules.{paper};
 ghost use Rattle.accept.specs.Answers.{answer_of};

@@ -14,7 +14,7 @@ use slate::{Compared, Line, Part, Reason, Slate, Slated};
 
 // satellite is 8 or 9, total the segments and heights the lines of each, with any numbers beyond them; area is the four letters, the first one highest.
 #[repr(C)]
-#[derive(Drop)]
+#[derive(Clone, Copy)]
 pub struct HsdSlate {
     pub satellite: u8,
     pub total: u8,
@@ -195,7 +195,7 @@ pub fn hsd_line<'a>(
 // refusal, block and offset are the slate's or the file's, and else 0. part is the first in which the two differ, and slate and file what each says of it; 0 where
 // there is none.
 #[repr(C)]
-#[derive(Drop)]
+#[derive(Clone, Copy)]
 pub struct HsdWhy {
     pub refusal: u8,
     pub block: u8,

@@ -9,7 +9,7 @@ use totals::Totals;
 
 // The place in `refused` is the refusal's number.
 #[repr(C)]
-#[derive(Drop)]
+#[derive(Clone, Copy)]
 pub struct HsdRun {
     pub radiance: u64,
     pub error: u64,
@@ -22,7 +22,7 @@ pub struct HsdRun {
 
 // extra is 0 for a refused file; run is the newest.
 #[repr(C)]
-#[derive(Drop)]
+#[derive(Clone, Copy)]
 pub struct HsdNight {
     pub refusal: u8,
     pub block: u8,

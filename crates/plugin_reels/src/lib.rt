@@ -11,7 +11,7 @@ use reel::Opened;
 
 // files is 0 for a refused reel.
 #[repr(C)]
-#[derive(Drop)]
+#[derive(Clone, Copy)]
 pub struct HsdReel {
     pub refusal: u8,
     pub block: u8,
@@ -22,7 +22,7 @@ pub struct HsdReel {
 
 // Where a file stands in a reel.
 #[repr(C)]
-#[derive(Drop)]
+#[derive(Clone, Copy)]
 pub struct HsdPart {
     pub offset: u32,
     pub length: u32,

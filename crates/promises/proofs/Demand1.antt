@@ -16,7 +16,7 @@ use Rattle.slate.specs.Slates.{slated, blank, asking, paper_reason, reason_of}
 use Rattle.frame.specs.Frames.{opening, open_frame, ready, placing, offering, record_after, frame_after}
 use Rattle.frame.specs.Lines.{shown}
 use Rattle.frame.proofs.Asking.{line_length, line_some}
-use Rattle.frame.proofs.line_of.Reads as Line-of
+use Rattle.frame.proofs.line_of.Reads as line_of
 use Rattle.writer.specs.Given.{orders, lengths8, lengths9, lengths10, room, given}
 use Rattle.reader.specs.Reads.{rooms2, rooms3, filled}
 use Rattle.reel.specs.Reels.{filed, paper_opened, opened}
@@ -209,7 +209,7 @@ of_offer κ a r t p u e =
     (refused_in (offering a.0 a.1.0.marks (length a.1.1.0.now) a.1.1.1.0.now) (in_offering _ _ _ _) u q, (p.1.0 ∙ left _ u _ _ q, p.1.1 ∙ left _ u _ _ q))
 
 -- a line's refusal is an empty part: one that can be shown has all its columns, which are never none, and any other is empty
-module _ (κ : _) (a : _) (r : _) (t : _) (p : Line-of.Post κ a r t) where
+module _ (κ : _) (a : _) (r : _) (t : _) (p : line_of.Post κ a r t) where
   abbrev seen : Bool
   seen = shown a.0 a.1.0.marks a.1.1.0.now a.1.1.1.0.now a.1.1.1.1.0.0
 

@@ -87,7 +87,7 @@ use Rattle.samples.proofs.paper.Reads as paper_plan
 use Rattle.samples.proofs.make.Reads as make_sample
 use Rattle.frame.proofs.open.Reads as opening
 use Rattle.frame.proofs.offer.Reads as offering
-use Rattle.frame.proofs.line_of.Reads as Line-of
+use Rattle.frame.proofs.line_of.Reads as line_of
 use Rattle.frame.proofs.count_of.Reads as count_of
 use Rattle.frame.proofs.counts_in.Reads as counts_in
 use Rattle.frame.proofs.counts_into.Reads as counts_into
@@ -383,7 +383,7 @@ offering_one = (
   λ κ a x y s t p q. p.1.1 ∙ sym q.1.1,
 )
 
-pub line_of_one : One (λ κ x s. x.now) Line-of.Post
+pub line_of_one : One (λ κ x s. x.now) line_of.Post
 line_of_one κ a x y s t p q = p ∙ sym q
 
 pub hsd_accept_one : One (λ κ x s. x) hsd_accept.Post

@@ -1,4 +1,4 @@
--- Calls of `hsd_open` and `hsd_offer`, which C makes, by the contracts as their source has them.
+-- Calls of `hsd_open` and `hsd_offer`, which C makes through the exports of panulimbe, by the contracts as their source has them.
 use Rattle.std.specs.Prelude.{ℕ, ◌≡◌, List, [], ◌∷◌, map}
 use Rattle.assembly.specs.History.{File}
 use Rattle.plugin_frames.specs.declared.HsdSlate.{HsdSlate}

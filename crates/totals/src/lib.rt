@@ -45,7 +45,7 @@ struct Four {
 fn sort_piece(xs: &[u16], limit: u16) -> Four
     requires { length xs.now ≤ 256 }
     ensures sorted { Sorted limit xs.now result.error result.outside result.over result.below }
-    ensures error_in_bounds { (result.error ≤ length xs.now) × (result.outside ≤ length xs.now) × (result.over ≤ length xs.now) × (result.below ≤ length xs.now) }
+    ensures numbers_in_bounds { (result.error ≤ length xs.now) × (result.outside ≤ length xs.now) × (result.over ≤ length xs.now) × (result.below ≤ length xs.now) }
 {
     let mut i = 0;
     let mut error: u16 = 0;
@@ -73,7 +73,7 @@ fn sort_bytes(buffer: &mut [u16], src: &[u8], order: u8, limit: u16) -> Four
     requires { (length buffer.old ≤ 256) × (length src.now ≡ length buffer.old * 2) }
     ensures buffer_len_unchanged { length buffer.new ≡ length buffer.old }
     ensures sorted { Sorted limit (counts order src.now) result.error result.outside result.over result.below }
-    ensures error_in_bounds { (result.error ≤ length buffer.old) × (result.outside ≤ length buffer.old) × (result.over ≤ length buffer.old) × (result.below ≤ length buffer.old) }
+    ensures numbers_in_bounds { (result.error ≤ length buffer.old) × (result.outside ≤ length buffer.old) × (result.over ≤ length buffer.old) × (result.below ≤ length buffer.old) }
 {
     frame::counts_into(buffer, src, order);
     sort_piece(buffer, limit)

@@ -19,7 +19,7 @@ pub loop-at-preserved : goal.loop-at-preserved
 loop-at-preserved c =
     let m = c.least-m in
     let a = c.args in
-    let n = c.sort_bytes-f.ensures.error_in_bounds in
+    let n = c.sort_bytes-f.ensures.numbers_in_bounds in
     let f = front (goal.at.loop-at-preserved c).After-least-m in (
       omega (arith, m.ensures.1),
       refl,

@@ -15,4 +15,4 @@ returns c =
     let h = c.counts_into.ensures ∙ filled_twice a.order a.src.now a.buffer.now c.requires.1 in
     let s = c.sort_piece.ensures in
     let l = long (goal.at.returns c).After-counts_into in
-    record { buffer_len_unchanged = ap length h ∙ l; sorted = (rw h at s.sorted); error_in_bounds = rw (← l, ← h) s.error_in_bounds }
+    record { buffer_len_unchanged = ap length h ∙ l; sorted = (rw h at s.sorted); numbers_in_bounds = rw (← l, ← h) s.numbers_in_bounds }
