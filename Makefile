@@ -10,10 +10,11 @@ proved = crates.txt $(shell find crates -name out -prune -o \( -name '*.rt' -o -
 
 all: $(out)/libpanulimbe.a $(out)/panulimbe
 
-# The crate of the exports. `rt ci` leaves no archive, and takes away what stood in out/: so a copy is kept here.
+# The crate of the exports, for every x86-64 processor, as the library has always been; without --cpu it would ask for SSE4.2 and say nothing.
+# `rt ci` leaves no archive, and takes away what stood in out/: so a copy is kept here.
 $(out)/libpanulimbe.a: $(proved)
 	mkdir -p $(out)
-	cd crates/panulimbe && rt lib
+	cd crates/panulimbe && rt lib --cpu x86-64
 	cp crates/panulimbe/out/libpanulimbe.a $@
 
 $(out)/panulimbe: $(wildcard host/command/*.[ch]) include/hsd.h $(out)/libpanulimbe.a
