@@ -13,24 +13,20 @@ judge_append v [] ys = refl
 judge_append v (test ok t ∷ xs) ys = judge_append (checked v ok t) xs ys
 
 pub judge_refused : (u : Turned) (rs : List Row) → judge (refused u) rs ≡ refused u
-unfolding checked
 judge_refused u [] = refl
 judge_refused u (test ok t ∷ rs) = judge_refused u rs
 
 -- a value is said exactly where nothing is wrong, and a refusal where there is one
 pub said : {A : Type 0} (r : Ruling) (x y : A) → reply r x ≡ says y → (r ≡ fine) × (x ≡ y)
-unfolding reply
 said fine x y e = (refl, cc)
 said (refused t) x y e = absurd (let z : ◌≡◌ {A = ℕ} 0 1 = cc in omega arith)
 
 pub turned_away : {A : Type 0} (r : Ruling) (x : A) (t : Turned) → reply r x ≡ refuses t → r ≡ refused t
-unfolding reply
 turned_away fine x t e = absurd (let z : ◌≡◌ {A = ℕ} 0 1 = cc in omega arith)
 turned_away (refused u) x t e = cc
 
 -- a table without places says what the table says, without its place
 unplaced_check : (v : Ruling) (ok : Bool) (n b p : ℕ) → checked (placeless v) ok (turned n b 0) ≡ placeless (checked v ok (turned n b p))
-unfolding checked placeless
 unplaced_check (refused (turned m c q)) ok n b p = refl
 unplaced_check fine true n b p = refl
 unplaced_check fine false n b p = refl
@@ -47,7 +43,6 @@ Holds [] = Unit
 Holds (test ok t ∷ rs) = (ok ≡ true) × Holds rs
 
 fine_holds : (rs : List Row) → judge fine rs ≡ fine → Holds rs
-unfolding checked
 fine_holds [] e = tt
 fine_holds (test true t ∷ rs) e = (refl, fine_holds rs e)
 fine_holds (test false t ∷ rs) e =
@@ -56,7 +51,6 @@ fine_holds (test false t ∷ rs) e =
     absurd (omega arith)
 
 holds_fine : (rs : List Row) → Holds rs → judge fine rs ≡ fine
-unfolding checked
 holds_fine [] h = refl
 holds_fine (test ok t ∷ rs) h = rw (h.0, holds_fine rs h.1)
 
@@ -71,13 +65,11 @@ pub exactly : (rs : List Row) → (judge fine rs ≡ fine) ↔ Holds rs
 exactly rs = (fine_holds rs, holds_fine rs)
 
 first_is : (rs : List Row) (u : Turned) → judge fine rs ≡ refused u → First rs u
-unfolding checked
 first_is [] u e = absurd (let z : ◌≡◌ {A = ℕ} 0 1 = cc in omega arith)
 first_is (test true t ∷ rs) u e = later refl (first_is rs u e)
 first_is (test false t ∷ rs) u e = let q : refused t ≡ refused u = sym (judge_refused t rs) ∙ e in let z : t ≡ u = cc in rw (← z) (here refl)
 
 first_refused : {rs : List Row} {u : Turned} → First rs u → judge fine rs ≡ refused u
-unfolding checked
 first_refused (here {u = u} {rs = rs} e) = rw e (judge_refused u rs)
 first_refused (later e f) = rw e (first_refused f)
 
@@ -100,7 +92,6 @@ pub data Tried : Ruling → List (List Row) → Ruling → Type 0 where
   table : {v m r : Ruling} {t : List Row} {ts : List (List Row)} → m ≡ judge v t → Tried m ts r → Tried v (t ∷ ts) r
 
 pub tried : {v r : Ruling} {ts : List (List Row)} → Tried v ts r → r ≡ judge v (tables ts)
-unfolding tables
 tried last = refl
 tried (table {v = v} {t = t} {ts = ts} e j) = tried j ∙ rw (e, ← judge_append v t (tables ts))
 
@@ -122,12 +113,10 @@ holds_join [] ys h k = k
 holds_join (test ok t ∷ xs) ys h k = (h.0, holds_join xs ys h.1 k)
 
 pub each_is : (ts : List (List Row)) → Holds (tables ts) → Each ts
-unfolding tables
 each_is [] h = tt
 each_is (t ∷ ts) h = let k = holds_split t (tables ts) h in (k.0, each_is ts k.1)
 
 pub each_of : (ts : List (List Row)) → Each ts → Holds (tables ts)
-unfolding tables
 each_of [] h = tt
 each_of (t ∷ ts) h = holds_join t (tables ts) h.0 (each_of ts h.1)
 
@@ -141,6 +130,8 @@ first_before ys (later e f) = later e (first_before ys f)
 
 -- a table in which a row fails, after tables whose tests all hold and before any others
 pub first_table : (ts : List (List Row)) (t : List Row) (us : List (List Row)) {u : Turned} → Each ts → First t u → First (tables (ts ++ (t ∷ us))) u
-unfolding tables
 first_table [] t us h f = first_before (tables us) f
 first_table (x ∷ ts) t us h f = first_after x h.0 (first_table ts t us h.1 f)
+
+-- a table judged in parts
+pub ruleset judging = (judge_append, judge_refused)

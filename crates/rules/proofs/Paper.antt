@@ -4,12 +4,11 @@ use mathlib.Core.Path.{◌≡◌, refl, sym, ap, ◌∙◌}
 use mathlib.Core.Bool.{Bool, true, false}
 use Prim.Native.Nat.{ℕ}
 use lib.Dec.{eqb}
-use Rattle.rules.specs.Rules.{number_of, Turned, turned, paper_of, Ruling, fine, refused, paper}
+use Rattle.std.specs.Prelude.{Result, Ok, Err}
+use Rattle.rules.specs.Rules.{number_of, Turned, turned, paper_of, Ruling, fine, refused, paper, Verdict}
 use Rattle.rules.specs.declared.Why.{Why}
 use Rattle.rules.specs.declared.Why.TheVariants.{Short, Number, Order, Length, Fixed, Packed, HeaderSum, DataSum, Name, Cut, Tail, Slate, Strip, OtherShot, Already, Room, Reel, Run, Satellite, Area, Timeline, Size, Compression, Band, Bits, Segment, Day}
 use Rattle.rules.specs.declared.Refusal.{Refusal}
-use Rattle.rules.specs.declared.Verdict.{Verdict}
-use Rattle.rules.specs.declared.Verdict.TheVariants.{Fine, Refused}
 
 abbrev when : Bool → Why → Why → Why
 when true a b = a
@@ -83,13 +82,13 @@ unfolding refusal_of
 refusal_paper t = λ i. record { why = named_number t.why i; block = t.block; offset = t.offset }
 
 unfoldable pub verdict_of : Ruling → Verdict
-verdict_of fine = Fine
-verdict_of (refused t) = Refused (refusal_of t)
+verdict_of fine = Ok tt
+verdict_of (refused t) = Err (refusal_of t)
 
 pub verdict_paper : (v : Verdict) → verdict_of (paper v) ≡ v
-unfolding paper verdict_of
-verdict_paper Fine = refl
-verdict_paper (Refused t) = ap Refused (refusal_paper t)
+unfolding verdict_of
+verdict_paper (Ok u) = refl
+verdict_paper (Err t) = ap Err (refusal_paper t)
 
 pub paper_one : (v w : Verdict) → paper v ≡ paper w → v ≡ w
 paper_one v w e = sym (verdict_paper v) ∙ ap verdict_of e ∙ verdict_paper w

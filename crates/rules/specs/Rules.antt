@@ -1,10 +1,8 @@
 -- Refusals in the paper's own numbers, and tables of checks: the first that fails answers.
-use Rattle.std.specs.Prelude.{ℕ, ◌≡◌, List, [], ◌∷◌, ◌++◌, Bool, true, false}
+use Rattle.std.specs.Prelude.{ℕ, ◌≡◌, List, [], ◌∷◌, ◌++◌, Bool, true, false, Result, Ok, Err}
 use Rattle.rules.specs.declared.Why.{Why}
 use Rattle.rules.specs.declared.Why.TheVariants.{Short, Number, Order, Length, Fixed, Packed, HeaderSum, DataSum, Name, Cut, Tail, Slate, Strip, OtherShot, Already, Room, Reel, Run, Satellite, Area, Timeline, Size, Compression, Band, Bits, Segment, Day}
 use Rattle.rules.specs.declared.Refusal.{Refusal}
-use Rattle.rules.specs.declared.Verdict.{Verdict}
-use Rattle.rules.specs.declared.Verdict.TheVariants as verdicts
 
 -- the paper's number of a refusal
 abbrev pub number_of : Why → ℕ
@@ -48,9 +46,13 @@ pub data Ruling : Type 0 where
   fine : Ruling
   refused : Turned → Ruling
 
-unfoldable pub paper : Verdict → Ruling
-paper verdicts.Fine = fine
-paper (verdicts.Refused t) = refused (paper_of t)
+-- what a function answers that makes checks and gives no value
+abbrev pub Verdict : Type 0
+Verdict = Result Unit Refusal
+
+abbrev pub paper : {A : Type 0} → Result A Refusal → Ruling
+paper (Ok a) = fine
+paper (Err t) = refused (paper_of t)
 
 -- a test, and the refusal where it is false
 pub data Row : Type 0 where
@@ -60,7 +62,7 @@ abbrev pub row : Bool → ℕ → ℕ → ℕ → Row
 row ok number block offset = test ok (turned number block offset)
 
 -- one check more, on top of what the checks before it said
-unfoldable pub checked : Ruling → Bool → Turned → Ruling
+abbrev pub checked : Ruling → Bool → Turned → Ruling
 checked (refused u) ok t = refused u
 checked fine true t = fine
 checked fine false t = refused t
@@ -76,12 +78,12 @@ pub data First : List Row → Turned → Type 0 where
   later : {ok : Bool} {t u : Turned} {rs : List Row} → ok ≡ true → First rs u → First (test ok t ∷ rs) u
 
 -- tables one after the other
-unfoldable pub tables : List (List Row) → List Row
+abbrev pub tables : List (List Row) → List Row
 tables [] = []
 tables (t ∷ ts) = t ++ tables ts
 
 -- values that come from no file have no place in one: the offset is 0, in a ruling and in every row of a table
-unfoldable pub placeless : Ruling → Ruling
+abbrev pub placeless : Ruling → Ruling
 placeless fine = fine
 placeless (refused (turned n b p)) = refused (turned n b 0)
 
@@ -94,8 +96,13 @@ pub data Reply (A : Type 0) : Type 0 where
   says : A → Reply A
   refuses : Turned → Reply A
 
+-- a function's value or refusal, in the paper's words
+abbrev pub paper_reply : {A : Type 0} → Result A Refusal → Reply A
+paper_reply (Ok a) = says a
+paper_reply (Err t) = refuses (paper_of t)
+
 -- the value where nothing is wrong, and else the refusal
-unfoldable pub reply : {A : Type 0} → Ruling → A → Reply A
+abbrev pub reply : {A : Type 0} → Ruling → A → Reply A
 reply fine a = says a
 reply (refused t) a = refuses t
 
