@@ -6,6 +6,7 @@ use mathlib.Core.List.{List, [], ◌∷◌}
 use Prim.Native.Nat.{ℕ}
 use native.Mathlib.Omega.{arith}
 use lib.Dec.{eqb}
+use lib.Pointwise.{pointwise}
 use borrow.Author.Tests.{eq-eqb, eqb-true}
 use Rattle.wire.specs.Wire.{eqs}
 
@@ -36,3 +37,11 @@ eqs_ne xs ys h = go (eqs xs ys) refl
 
 pub eqs_same : (xs ys : List ℕ) → xs ≡ ys → eqs xs ys ≡ true
 eqs_same xs ys e = rw e (eqs_refl ys)
+
+-- what std's equality of slices says
+pub pointwise_eqs : (xs ys : List ℕ) → pointwise eqb xs ys ≡ eqs xs ys
+unfolding eqs
+pointwise_eqs [] [] = refl
+pointwise_eqs [] (y ∷ ys) = refl
+pointwise_eqs (x ∷ xs) [] = refl
+pointwise_eqs (x ∷ xs) (y ∷ ys) = rw (pointwise_eqs xs ys) refl

@@ -6,3 +6,4 @@ pub mod Rows
 pub mod Pieces
 pub mod Here
 pub mod Equal
+pub mod Eights

@@ -93,21 +93,3 @@ num_lt o bs p = order_lt (eqb o 0) bs p
 pub num_byte : (s : List ℕ) (o at : ℕ) → get_or s at 0 ≡ num o (span s at 1)
 unfolding num low span
 num_byte s o at = by_order (λ (x : ℕ). get_or s at 0 ≡ x) (eqb o 0) _ _ (omega arith) (omega arith)
-
-low_append : (xs ys : List ℕ) → low (xs ++ ys) ≡ low xs + 256 ^ length xs * low ys
-unfolding low
-low_append [] ys = omega arith
-low_append (x ∷ xs) ys = rw (pow-suc, low_append xs ys) (omega (arith, mul_assoc (256 ^ length xs) 256 (low ys)))
-
--- the number of two halves, at every width: which half counts more is said by the order
-module _ (s : List ℕ) (o at m : ℕ) {t : List ℕ} {x y : ℕ} (e : t ≡ drop at s) (p : x ≡ num o (span t 0 m)) (q : y ≡ num o (span t m m)) where
-  whole : span s at (m + m) ≡ span t 0 m ++ span t m m
-  whole = rw (e, span_drop s at 0 m, span_drop s at m m, add-zero, ← span_add s at m m)
-
-  pub lowest_first : o ≡ 0 → x + 256 ^ m * y ≡ num o (span s at (m + m))
-  unfolding num
-  lowest_first z = rw (p, q, whole, eq-eqb o 0 z, low_append, length_span)
-
-  pub highest_first : (o ≡ 0 → ⊥) → y + 256 ^ m * x ≡ num o (span s at (m + m))
-  unfolding num
-  highest_first z = rw (p, q, whole, ne_eqb o 0 z, reverse-append, low_append, length-reverse, length_span)

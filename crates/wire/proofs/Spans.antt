@@ -2,12 +2,13 @@
 -- Assumes nothing.
 use mathlib.Core.Path.{◌≡◌, refl, ap, ◌∙◌}
 use mathlib.Core.List.{List, [], ◌∷◌, ◌++◌, append_assoc}
-use Prim.Native.Nat.{ℕ, zero, suc, ◌+◌, ◌<◌}
+use Prim.Native.Nat.{ℕ, zero, suc, ◌+◌, ◌<◌, ◌≤◌}
 use native.Mathlib.Nat.{add-zero, zero-add, suc-add}
 use native.Mathlib.Numerals.{add-one}
 use native.Mathlib.Omega.{arith}
-use lib.ListN.{length, get_or, drop, set}
-use lib.Seq.{get_or-drop, set_at, drop-cons}
+use lib.ListN.{length, get_or, take, drop}
+use lib.Seq.{get_or-drop}
+use Rattle.std.proofs.lemmas.Grind.{common_steps, same_number_lists}
 use Rattle.wire.specs.Wire.{span}
 
 pub length_span : (s : List ℕ) (at w : ℕ) → length (span s at w) ≡ w
@@ -51,8 +52,22 @@ span_mid [] [] t = refl
 span_mid [] (x ∷ p) t = ap (λ (l : List ℕ). x ∷ l) (span_cons x (p ++ t) 0 (length p) ∙ span_mid [] p t)
 span_mid (x ∷ h) p t = span_cons x (h ++ (p ++ t)) (length h) (length p) ∙ span_mid h p t
 
--- a turn of a loop that fills from the front
-pub fill_turn : (s d : List ℕ) (at : ℕ) {dst : List ℕ} {i x : ℕ} → dst ≡ span s at i ++ drop i d → x ≡ get_or s (at + i) 0 → i < length d
-    → set dst i x ≡ span s at (i + 1) ++ drop (i + 1) d
-fill_turn s d at {dst} {i} {x} e f h =
-    rw (e, f, add-one, drop-cons d i 0, set_at (span s at i) _ _ _ _ (length_span s at i), span_snoc, append_assoc)
+get_or_span : (s : List ℕ) (at w k : ℕ) → k < w → get_or (span s at w) k 0 ≡ get_or s (at + k) 0
+unfolding span
+get_or_span s at zero k h = absurd (omega arith)
+get_or_span s at (suc w) zero h = rw add-zero refl
+get_or_span s at (suc w) (suc k) h = let e : at + 1 + k ≡ at + suc k = omega arith in rw (← e) (get_or_span s (at + 1) w k (omega arith))
+
+-- what has these bytes is the span
+pub span_from_each : (bs s : List ℕ) (at w : ℕ) → length bs ≡ w → ((k : ℕ) → k < w → get_or bs k 0 ≡ get_or s (at + k) 0) → bs ≡ span s at w
+span_from_each bs s at w l e = same_number_lists _ _ (rw length_span l) (λ k h. rw (get_or_span s at w k (omega arith)) (e k (omega arith)))
+
+-- the first bytes from a place on
+pub span_from_take : (bs s : List ℕ) (at w : ℕ) → bs ≡ take w (drop at s) → w ≤ length (drop at s) → bs ≡ span s at w
+span_from_take bs s at w e h = span_from_each bs s at w (grind (arith, common_steps)) (λ k l. rw e (grind (arith, common_steps)))
+
+-- what is left from a place on, read from its start
+pub span_rest : (s : List ℕ) (at w : ℕ) → span (drop at s) 0 w ≡ span s at w
+span_rest s at w = rw (span_drop s at 0 w, add-zero)
+
+pub ruleset spans = (span_from_each, span_from_take, span_rest)

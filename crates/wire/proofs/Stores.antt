@@ -7,7 +7,8 @@ use native.Mathlib.Nat.{add-zero, zero-add}
 use native.Mathlib.Numerals.{add-one}
 use native.Mathlib.Omega.{arith}
 use lib.ListN.{length, get_or, take, drop, set, length-append, length-set}
-use lib.Seq.{sets, set_out, take-suc, length-take-le, sets-eq, length-sets}
+use lib.Seq.{sets, set_out, length-take-le, sets-eq, length-sets}
+use Rattle.std.proofs.lemmas.Grind.{common_steps}
 use Rattle.wire.specs.Wire.{span, num, digits, store, join, Stored}
 use Rattle.wire.proofs.Spans.{span_mid}
 use Rattle.wire.proofs.Numbers.{num_digits, length_digits}
@@ -33,12 +34,22 @@ sets_clipped l i zero (x ∷ xs) h = sym (sets_out l i (x ∷ xs) (omega arith))
 sets_clipped l i (suc n) [] h = refl
 sets_clipped l i (suc n) (x ∷ xs) h = sets_clipped (set l i x) (suc i) n xs (rw length-set (omega arith))
 
--- a turn of a loop that stores
-pub put_turn : (l src : List ℕ) (at : ℕ) {out : List ℕ} {i : ℕ} → out ≡ sets l at (take i src) → i < length src
-    → set out (at + i) (get_or src i 0) ≡ sets l at (take (i + 1) src)
-put_turn l src at {out} {i} e h =
-    let f : length (take i src) ≡ i = length-take-le i src (omega arith) in
-    rw (e, add-one, take-suc src i 0, sets_append, f)
+clip : (l : List ℕ) (at n : ℕ) (bs : List ℕ) → n ≡ min (length bs) (length l - at) → sets l at (take n bs) ≡ sets l at bs
+clip l at n bs e = sets_clipped l at n bs (omega arith)
+
+pub store_out : (l : List ℕ) (at : ℕ) (bs : List ℕ) → length l < at → l ≡ store l at bs
+unfolding store
+store_out l at bs h = sym (sets_out l at bs (omega arith))
+
+-- a part of l overwritten by the first bytes, as many as there is room for
+pub store_in : (l bs v : List ℕ) (at n k : ℕ) → at ≤ length l → n ≡ min (length bs) (length l - at) → v ≡ take n bs → k ≡ n → take at l ++ (v ++ drop k (drop at l)) ≡ store l at bs
+unfolding store
+store_in l bs v at n k h e f g =
+    let long : length (take n bs) ≡ n = length-take-le n bs (omega arith) in
+    let fits : at + length (take n bs) ≤ length l = omega arith in
+    rw (f, g) (rw (← clip l at n bs e, sets-eq (take n bs) l at fits) (grind (arith, common_steps)))
+
+pub ruleset stores = (store_out, store_in)
 
 -- a run of stores, each where the last one ended: from l to out, the n bytes of the pieces ps from at on
 pub data Puts : List ℕ → ℕ → ℕ → List (List ℕ) → List ℕ → Type 0 where
