@@ -80,155 +80,79 @@ pub struct Header {
     pub spare11: [u8; 256],
 }
 
-// Runs of so many bytes, read at a place.
-fn run2(s: &[u8], at: usize) -> [u8; 2]
-    ensures { result ≡ span s.now at 2 }
-{
-    let mut a = [0u8; 2];
-    wire::fill(&mut a, s, at);
-    a
-}
-
-fn run4(s: &[u8], at: usize) -> [u8; 4]
-    ensures { result ≡ span s.now at 4 }
-{
-    let mut a = [0u8; 4];
-    wire::fill(&mut a, s, at);
-    a
-}
-
-fn run16(s: &[u8], at: usize) -> [u8; 16]
-    ensures { result ≡ span s.now at 16 }
-{
-    let mut a = [0u8; 16];
-    wire::fill(&mut a, s, at);
-    a
-}
-
-fn run32(s: &[u8], at: usize) -> [u8; 32]
-    ensures { result ≡ span s.now at 32 }
-{
-    let mut a = [0u8; 32];
-    wire::fill(&mut a, s, at);
-    a
-}
-
-fn run40(s: &[u8], at: usize) -> [u8; 40]
-    ensures { result ≡ span s.now at 40 }
-{
-    let mut a = [0u8; 40];
-    wire::fill(&mut a, s, at);
-    a
-}
-
-fn run112(s: &[u8], at: usize) -> [u8; 112]
-    ensures { result ≡ span s.now at 112 }
-{
-    let mut a = [0u8; 112];
-    wire::fill(&mut a, s, at);
-    a
-}
-
-fn run124(s: &[u8], at: usize) -> [u8; 124]
-    ensures { result ≡ span s.now at 124 }
-{
-    let mut a = [0u8; 124];
-    wire::fill(&mut a, s, at);
-    a
-}
-
-fn run128(s: &[u8], at: usize) -> [u8; 128]
-    ensures { result ≡ span s.now at 128 }
-{
-    let mut a = [0u8; 128];
-    wire::fill(&mut a, s, at);
-    a
-}
-
-fn run136(s: &[u8], at: usize) -> [u8; 136]
-    ensures { result ≡ span s.now at 136 }
-{
-    let mut a = [0u8; 136];
-    wire::fill(&mut a, s, at);
-    a
-}
-
-fn run256(s: &[u8], at: usize) -> [u8; 256]
-    ensures { result ≡ span s.now at 256 }
-{
-    let mut a = [0u8; 256];
-    wire::fill(&mut a, s, at);
-    a
-}
-
 // The values of a block.
+#[tactic(auto, unfolding(crate::specs::Values::block1_of))]
 pub fn read_block1(s: &[u8], order: u8) -> Block1
     ensures { result ≡ block1_of s.now order }
 {
     Block1 {
         order,
-        satellite: run16(s, 6),
-        centre: run16(s, 22),
-        area: run4(s, 38),
-        other: run2(s, 42),
-        timeline: wire::u16_at(s, 44, order),
-        started: wire::u64_at(s, 46, order),
-        ended: wire::u64_at(s, 54, order),
-        created: wire::u64_at(s, 62, order),
+        satellite: wire::bytes_at(s, 6),
+        centre: wire::bytes_at(s, 22),
+        area: wire::bytes_at(s, 38),
+        other: wire::bytes_at(s, 42),
+        timeline: wire::number_at(s, 44, order),
+        started: wire::number_at(s, 46, order),
+        ended: wire::number_at(s, 54, order),
+        created: wire::number_at(s, 62, order),
         quality1: wire::byte_at(s, 78),
         quality2: wire::byte_at(s, 79),
         quality3: wire::byte_at(s, 80),
         quality4: wire::byte_at(s, 81),
-        version: run32(s, 82),
-        name: run128(s, 114),
-        spare: run40(s, 242),
+        version: wire::bytes_at(s, 82),
+        name: wire::bytes_at(s, 114),
+        spare: wire::bytes_at(s, 242),
     }
 }
 
+#[tactic(auto, unfolding(crate::specs::Values::block2_of))]
 pub fn read_block2(s: &[u8], order: u8) -> Block2
     ensures { result ≡ block2_of s.now order }
 {
     Block2 {
-        columns: wire::u16_at(s, 287, order),
-        lines: wire::u16_at(s, 289, order),
+        columns: wire::number_at(s, 287, order),
+        lines: wire::number_at(s, 289, order),
         compression: wire::byte_at(s, 291),
-        spare: run40(s, 292),
+        spare: wire::bytes_at(s, 292),
     }
 }
 
+#[tactic(auto, unfolding(crate::specs::Values::block5_of))]
 pub fn read_block5(s: &[u8], order: u8) -> Block5
     ensures { result ≡ block5_of s.now order }
 {
     Block5 {
-        band: wire::u16_at(s, 601, order),
-        wavelength: wire::u64_at(s, 603, order),
-        bits: wire::u16_at(s, 611, order),
-        gain: wire::u64_at(s, 617, order),
-        constant: wire::u64_at(s, 625, order),
-        carried: run112(s, 633),
+        band: wire::number_at(s, 601, order),
+        wavelength: wire::number_at(s, 603, order),
+        bits: wire::number_at(s, 611, order),
+        gain: wire::number_at(s, 617, order),
+        constant: wire::number_at(s, 625, order),
+        carried: wire::bytes_at(s, 633),
     }
 }
 
+#[tactic(auto, unfolding(crate::specs::Values::block7_of))]
 pub fn read_block7(s: &[u8], order: u8) -> Block7
     ensures { result ≡ block7_of s.now order }
 {
     Block7 {
         total: wire::byte_at(s, 1007),
         number: wire::byte_at(s, 1008),
-        first: wire::u16_at(s, 1009, order),
-        spare: run40(s, 1011),
+        first: wire::number_at(s, 1009, order),
+        spare: wire::bytes_at(s, 1011),
     }
 }
 
 // a: the entries of block 8, before its spare.
+#[tactic(auto, unfolding(crate::specs::Values::block8_of))]
 pub fn read_block8(s: &[u8], order: u8, a: u16) -> Block8
     ensures { result ≡ block8_of s.now order a }
 {
     Block8 {
-        column: wire::u32_at(s, 1054, order),
-        line: wire::u32_at(s, 1058, order),
-        rotation: wire::u64_at(s, 1062, order),
-        spare: run40(s, 1072 + 10 * (a as usize)),
+        column: wire::number_at(s, 1054, order),
+        line: wire::number_at(s, 1058, order),
+        rotation: wire::number_at(s, 1062, order),
+        spare: wire::bytes_at(s, 1072 + 10 * usize::from(a)),
     }
 }
 
@@ -236,73 +160,74 @@ pub fn read_block8(s: &[u8], order: u8, a: u16) -> Block8
 pub fn place9(a: u16) -> usize
     ensures { result ≡ at9 a }
 {
-    1112 + 10 * (a as usize)
+    1112 + 10 * usize::from(a)
 }
 
 pub fn place10(a: u16, b: u16) -> usize
     ensures { result ≡ at10 a b }
 {
-    1157 + 10 * (a as usize) + 10 * (b as usize)
+    1157 + 10 * usize::from(a) + 10 * usize::from(b)
 }
 
 pub fn place11(a: u16, b: u16, c: u16) -> usize
     ensures { result ≡ at11 a b c }
 {
-    1204 + 10 * (a as usize) + 10 * (b as usize) + 4 * (c as usize)
+    1204 + 10 * usize::from(a) + 10 * usize::from(b) + 4 * usize::from(c)
 }
 
 // The entries of blocks 8, 9 and 10, as a file states them.
 pub fn a_of(s: &[u8]) -> u16
     ensures { result ≡ a_of s.now }
 {
-    wire::u16_at(s, 1070, wire::byte_at(s, 5))
+    wire::number_at(s, 1070, wire::byte_at(s, 5))
 }
 
 pub fn b_of(s: &[u8]) -> u16
     ensures { result ≡ b_of s.now }
 {
-    wire::u16_at(s, place9(a_of(s)) + 3, wire::byte_at(s, 5))
+    wire::number_at(s, place9(a_of(s)) + 3, wire::byte_at(s, 5))
 }
 
 pub fn c_of(s: &[u8]) -> u16
     ensures { result ≡ c_of s.now }
 {
-    wire::u16_at(s, place10(a_of(s), b_of(s)) + 5, wire::byte_at(s, 5))
+    wire::number_at(s, place10(a_of(s), b_of(s)) + 5, wire::byte_at(s, 5))
 }
 
 // The header's length by its entries, and that of the counts.
 pub fn header_length(a: u16, b: u16, c: u16) -> u32
     ensures { result ≡ header_length a b c }
 {
-    1463 + 10 * (a as u32) + 10 * (b as u32) + 4 * (c as u32)
+    1463 + 10 * u32::from(a) + 10 * u32::from(b) + 4 * u32::from(c)
 }
 
 pub fn data_length(columns: u16, lines: u16) -> usize
     ensures { result ≡ data_length columns lines }
 {
-    2 * (columns as usize) * (lines as usize)
+    2 * usize::from(columns) * usize::from(lines)
 }
 
 // The spares that stand behind entries.
 fn read_spare9(s: &[u8], a: u16, b: u16) -> [u8; 40]
     ensures { result ≡ span s.now (at9 a + 5 + 10 * b) 40 }
 {
-    run40(s, place9(a) + 5 + 10 * (b as usize))
+    wire::bytes_at(s, place9(a) + 5 + 10 * usize::from(b))
 }
 
 fn read_spare10(s: &[u8], a: u16, b: u16, c: u16) -> [u8; 40]
     ensures { result ≡ span s.now (at10 a b + 7 + 4 * c) 40 }
 {
-    run40(s, place10(a, b) + 7 + 4 * (c as usize))
+    wire::bytes_at(s, place10(a, b) + 7 + 4 * usize::from(c))
 }
 
 fn read_spare11(s: &[u8], a: u16, b: u16, c: u16) -> [u8; 256]
     ensures { result ≡ span s.now (at11 a b c + 3) 256 }
 {
-    run256(s, place11(a, b, c) + 3)
+    wire::bytes_at(s, place11(a, b, c) + 3)
 }
 
 // The values of a header.
+#[tactic(auto, unfolding(crate::specs::Values::header_of))]
 pub fn read_header(s: &[u8]) -> Header
     ensures { result ≡ header_of s.now }
 {
@@ -313,10 +238,10 @@ pub fn read_header(s: &[u8]) -> Header
     Header {
         block1: read_block1(s, order),
         block2: read_block2(s, order),
-        carried3: run124(s, 335),
-        carried4: run136(s, 462),
+        carried3: wire::bytes_at(s, 335),
+        carried4: wire::bytes_at(s, 462),
         block5: read_block5(s, order),
-        carried6: run256(s, 748),
+        carried6: wire::bytes_at(s, 748),
         block7: read_block7(s, order),
         block8: read_block8(s, order, a),
         spare9: read_spare9(s, a, b),
