@@ -3,7 +3,7 @@
 use mathlib.Core.Path.{◌≡◌, refl, sym, ap, ◌∙◌}
 use mathlib.Core.List.{List, [], ◌∷◌, ◌++◌}
 use mathlib.Core.Bool.{Bool, true, ◌&&◌}
-use Prim.Native.Nat.{ℕ, zero, suc, ◌+◌, ◌*◌, ◌/◌, ◌%◌, ◌≤◌, ◌<◌}
+use Prim.Native.Nat.{ℕ, zero, suc, ◌+◌, ◌*◌, ◌/◌, ◌%◌, ◌<◌}
 use native.Mathlib.Nat.{add-zero, zero-add, add-suc, suc-add, le_of_suc-le-suc, not-suc-le-zero}
 use native.Mathlib.Omega.{arith}
 use lib.ListN.{length, get_or, get_or-append}
@@ -53,7 +53,3 @@ in_place ps i h e t =
     paged ps e (i / 120) (i % 120) (omega arith)
     ∙ ap (λ (n : ℕ). get_or (whole ps) n 0) (omega arith)
     ∙ rw zero-add at (from (whole ps) 0 t i h)
-
--- the page of a place
-pub page_is : (p i : ℕ) → 120 * p ≤ i → i < 120 * p + 120 → i / 120 ≡ p
-page_is p i l m = omega arith

@@ -1,8 +1,6 @@
 -- The Gregorian calendar by its definition: which years are leap, how long each month is, and days counted month after month.
-use Rattle.std.specs.Prelude.{ℕ, zero, suc, ◌+◌, ◌-◌, ◌*◌, ◌/◌, ◌%◌, Bool, not, ◌&&◌, ◌||◌, cond, eqb, leb}
+use Rattle.std.specs.Prelude.{ℕ, zero, suc, ◌+◌, ◌-◌, ◌*◌, ◌/◌, ◌%◌, Bool, not, ◌&&◌, ◌||◌, cond, eqb, leb, Option, Some, None}
 use Rattle.rules.specs.Rules.{turned, Reply, says, refuses}
-use Rattle.calendar.specs.declared.Dated.{Dated}
-use Rattle.calendar.specs.declared.Dated.TheVariants.{Day, NoSuchDate}
 
 -- every fourth year, but of the centuries only every fourth
 abbrev pub leap : ℕ → Bool
@@ -27,9 +25,9 @@ unfolding month_length
 real y m d = leb 2000 y && (leb y 2099 && (leb 1 m && (leb m 12 && (leb 1 d && leb d (month_length y m)))))
 
 -- what the paper says of a date's answer: a date that is not real breaks the name's rule, NAME of block 1
-unfoldable pub paper_day : Dated → Reply ℕ
-paper_day (Day n) = says n
-paper_day NoSuchDate = refuses (turned 10 1 0)
+unfoldable pub paper_day : Option ℕ → Reply ℕ
+paper_day (Some n) = says n
+paper_day None = refuses (turned 10 1 0)
 
 -- the day of a date, counted from its month's first
 abbrev pub day_at : ℕ → ℕ → ℕ → ℕ

@@ -1,10 +1,6 @@
 -- A shot is a day and a timeline. Its slot, and its number on the film.
 use Rattle.std.specs.Prelude.{ℕ, ◌+◌, ◌*◌, ◌/◌, ◌%◌, Bool, ◌&&◌, ◌||◌, List, [], ◌∷◌, eqb, leb, ℤ, pos, ◌-ℤ◌}
-use Rattle.rules.specs.Rules.{paper_of, fine, Row, row, judge, Reply, says, refuses, reply}
-use Rattle.calendar.specs.declared.Slotted.{Slotted}
-use Rattle.calendar.specs.declared.Slotted.TheVariants as slotted
-use Rattle.calendar.specs.declared.FilmFrame.{FilmFrame}
-use Rattle.calendar.specs.declared.FilmFrame.TheVariants as film
+use Rattle.rules.specs.Rules.{fine, Row, row, judge, Reply, reply}
 
 -- 51,544 is 2000-01-01, and 88,068 is 2099-12-31
 abbrev pub good_day : ℕ → Bool
@@ -25,10 +21,6 @@ slot_at d t = d * 144 + t / 100 * 6 + t % 100 / 10
 unfoldable pub shot : ℕ → ℕ → List Row
 shot d t = row (good_day d) 39 0 0 ∷ row (good_timeline t) 33 0 0 ∷ []
 
-unfoldable pub paper_slot : Slotted → Reply ℕ
-paper_slot (slotted.Slot n) = says n
-paper_slot (slotted.Refused t) = refuses (paper_of t)
-
 unfoldable pub slot_of : ℕ → ℕ → Reply ℕ
 slot_of d t = reply (judge fine (shot d t)) (slot_at d t)
 
@@ -40,10 +32,6 @@ shots d₀ t₀ d t =
     ∷ row (good_timeline t₀) 33 0 0
     ∷ row (good_timeline t) 33 0 0
     ∷ []
-
-unfoldable pub paper_frame : FilmFrame → Reply ℤ
-paper_frame (film.Number n) = says n
-paper_frame (film.Refused t) = refuses (paper_of t)
 
 -- the shot's slot minus the first shot's, negative if earlier
 unfoldable pub film_frame_of : ℕ → ℕ → ℕ → ℕ → Reply ℤ

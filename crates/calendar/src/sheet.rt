@@ -1,5 +1,5 @@
 // The editors' printed list, ten years to a page: the Modified Julian Day on which each month begins, January 2000 to December 2099.
-pub const MONTH_STARTS: [[u32; 120]; 10] = [
+pub static MONTH_STARTS: [[u32; 120]; 10] = [
     [
         // 2000
         51544, 51575, 51604, 51635, 51665, 51696, 51726, 51757, 51788, 51818, 51849, 51879,
