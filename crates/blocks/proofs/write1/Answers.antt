@@ -9,23 +9,23 @@ unfolding bytes1
 returns c =
     puts 282 refl
     (next c.put_byte.ensures
-    (next c.put_u16.ensures
-    (next c.put_u16-2.ensures
+    (next c.put_number.ensures
+    (next c.put_number-2.ensures
     (next c.put_byte-2.ensures
-    (next c.put16.ensures
-    (next c.put16-2.ensures
-    (next c.put4.ensures
-    (next c.put2.ensures
-    (next c.put_u16-3.ensures
-    (next c.put_u64.ensures
-    (next c.put_u64-2.ensures
-    (next c.put_u64-3.ensures
-    (next c.put_u32.ensures
-    (next c.put_u32-2.ensures
+    (next c.put_bytes.ensures
+    (next c.put_bytes-2.ensures
+    (next c.put_bytes-3.ensures
+    (next c.put_bytes-4.ensures
+    (next c.put_number-3.ensures
+    (next c.put_number-4.ensures
+    (next c.put_number-5.ensures
+    (next c.put_number-6.ensures
+    (next c.put_number-7.ensures
+    (next c.put_number-8.ensures
     (next c.put_byte-3.ensures
     (next c.put_byte-4.ensures
     (next c.put_byte-5.ensures
     (next c.put_byte-6.ensures
-    (next c.put32.ensures
-    (next c.put128.ensures
-    (next c.put40.ensures done)))))))))))))))))))))
+    (next c.put_bytes-5.ensures
+    (next c.put_bytes-6.ensures
+    (next c.put_bytes-7.ensures done)))))))))))))))))))))

@@ -9,9 +9,9 @@ unfolding bytes2
 returns c =
     puts 50 refl
     (next c.put_byte.ensures
-    (next c.put_u16.ensures
-    (next c.put_u16-2.ensures
-    (next c.put_u16-3.ensures
-    (next c.put_u16-4.ensures
+    (next c.put_number.ensures
+    (next c.put_number-2.ensures
+    (next c.put_number-3.ensures
+    (next c.put_number-4.ensures
     (next c.put_byte-2.ensures
-    (next c.put40.ensures done)))))))
+    (next c.put_bytes.ensures done)))))))

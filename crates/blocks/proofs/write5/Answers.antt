@@ -9,12 +9,12 @@ unfolding bytes5
 returns c =
     puts 147 refl
     (next c.put_byte.ensures
-    (next c.put_u16.ensures
-    (next c.put_u16-2.ensures
-    (next c.put_u64.ensures
-    (next c.put_u16-3.ensures
-    (next c.put_u16-4.ensures
-    (next c.put_u16-5.ensures
-    (next c.put_u64-2.ensures
-    (next c.put_u64-3.ensures
-    (next c.put112.ensures done))))))))))
+    (next c.put_number.ensures
+    (next c.put_number-2.ensures
+    (next c.put_number-3.ensures
+    (next c.put_number-4.ensures
+    (next c.put_number-5.ensures
+    (next c.put_number-6.ensures
+    (next c.put_number-7.ensures
+    (next c.put_number-8.ensures
+    (next c.put_bytes.ensures done))))))))))

@@ -9,8 +9,8 @@ unfolding bytes7
 returns c =
     puts 47 refl
     (next c.put_byte.ensures
-    (next c.put_u16.ensures
+    (next c.put_number.ensures
     (next c.put_byte-2.ensures
     (next c.put_byte-3.ensures
-    (next c.put_u16-2.ensures
-    (next c.put40.ensures done))))))
+    (next c.put_number-2.ensures
+    (next c.put_bytes.ensures done))))))

@@ -10,8 +10,8 @@ returns c =
     puts 1051 refl
     (next c.write1.ensures
     (next c.write2.ensures
-    (next c.write3.ensures
-    (next c.write4.ensures
+    (next c.write_carrying.ensures
+    (next c.write_carrying-2.ensures
     (next c.write5.ensures
-    (next c.write6.ensures
+    (next c.write_carrying-3.ensures
     (next c.write7.ensures done)))))))
