@@ -6,6 +6,8 @@ ghost use Rattle.std.specs.Float.{binary64};
 ghost use Rattle.reading.specs.Counts.{if_finite, reading_of, calibration_of};
 ghost use Rattle.reading.specs.Quality.{mark_of, lit_marks, marks_of};
 
+use std::num::f64_from_bits_with_nan;
+
 // Gain and constant travel together from block 5, with the band's valid bits.
 #[derive(Clone, Copy)]
 pub struct Calibration {
@@ -24,58 +26,43 @@ pub enum Reading {
     Uncalibrated,
 }
 
-// The number itself where it is finite. All ones in the exponent's bits is an infinity or a NaN.
+// The number itself where it is finite, and not an infinity or a NaN.
+#[tactic(auto, using(crate::proofs::Finite::finite_is))]
 fn if_finite(v: f64) -> Reading
     ensures { result ≡ if_finite v }
 {
-    // a NaN has no bits of its own to ask for, and differs from itself
-    if v != v {
-        return Reading::Uncalibrated;
+    if v.is_finite() {
+        Reading::Radiance(v)
+    } else {
+        Reading::Uncalibrated
     }
-    let exponent = f64::to_bits(v) / 0x0010_0000_0000_0000 % 2048;
-    if exponent == 2047 {
-        return Reading::Uncalibrated;
-    }
-    Reading::Radiance(v)
 }
 
 // Whether a count is 2 to the valid bits or more: from 16 bits on, none is.
+#[tactic(auto, using(crate::proofs::Limits::beyond))]
 fn over_range(bits: u16, count: u16) -> bool
     ensures { result ≡ leb (2 ^ bits) count }
 {
-    if bits < 16 {
-        let limit = 1u32 << bits;
-        limit <= count as u32
-    } else {
-        false
-    }
+    bits < 16 && 1 << bits <= u32::from(count)
 }
 
 // The reading of a count.
 pub fn read(cal: Calibration, count: u16) -> Reading
     ensures { result ≡ reading_of cal count }
 {
-    if count == 65535 {
-        return Reading::ErrorPixel;
+    match count {
+        65535 => Reading::ErrorPixel,
+        65534 => Reading::Outside,
+        _ if over_range(cal.bits, count) => Reading::OverRange,
+        _ => if_finite(cal.gain * f64::from(count) + cal.constant),
     }
-    if count == 65534 {
-        return Reading::Outside;
-    }
-    if over_range(cal.bits, count) {
-        return Reading::OverRange;
-    }
-    if_finite(cal.gain * (count as f64) + cal.constant)
 }
 
 // The float of a header's eight bytes, at a NaN's pattern too.
 pub fn float_of(pattern: u64) -> f64
     ensures { result ≡ of_bits binary64 pattern }
 {
-    if pattern % 0x8000_0000_0000_0000 <= 0x7ff0_0000_0000_0000 {
-        f64::from_bits(pattern)
-    } else {
-        0.0 / 0.0
-    }
+    f64_from_bits_with_nan(pattern)
 }
 
 // The calibration of a header's gain, constant and valid bits.
@@ -89,6 +76,8 @@ pub fn calibration_of(gain: u64, constant: u64, bits: u16) -> Calibration
     }
 }
 
+// What the flag says of one matter. It has words of its own, and is no Option<bool>: that a mark is not known is one of its three answers,
+// and None would read as if the flag lacked the mark.
 #[derive(Clone, Copy)]
 pub enum Mark {
     No,
@@ -124,6 +113,7 @@ fn mark_of(bit: u8) -> Mark
 }
 
 // Each mark as it stands in the byte.
+#[tactic(auto, unfolding(crate::specs::Quality::lit_marks))]
 fn lit_marks(flag: u8) -> Marks
     ensures { result ≡ lit_marks flag }
 {
@@ -140,6 +130,7 @@ fn lit_marks(flag: u8) -> Marks
 }
 
 // Quality flag 1: with its top bit set it is not valid, and the other marks are not known.
+#[tactic(auto, unfolding(crate::specs::Quality::marks_of))]
 pub fn marks_of(flag: u8) -> Marks
     ensures { result ≡ marks_of flag }
 {
