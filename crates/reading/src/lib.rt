@@ -6,7 +6,7 @@ ghost use Rattle.std.specs.Float.{binary64};
 ghost use Rattle.reading.specs.Counts.{if_finite, reading_of, calibration_of};
 ghost use Rattle.reading.specs.Quality.{mark_of, lit_marks, marks_of};
 
-use std::num::f64_from_bits_with_nan;
+use std::num::{f64_from_bits_with_nan, f64_to_bits_with_nan};
 
 // Gain and constant travel together from block 5, with the band's valid bits.
 #[derive(Clone, Copy)]
@@ -26,15 +26,17 @@ pub enum Reading {
     Uncalibrated,
 }
 
-// The number itself where it is finite, and not an infinity or a NaN.
-#[tactic(auto, using(crate::proofs::Finite::finite_is))]
+// The number itself where it is finite. All ones in the exponent's bits is an infinity or a NaN; decided from the bits and not by `is_finite`, as
+// the requirements name it.
+#[tactic(auto, using(crate::proofs::Exponent::reads))]
 fn if_finite(v: f64) -> Reading
     ensures { result ≡ if_finite v }
 {
-    if v.is_finite() {
-        Reading::Radiance(v)
-    } else {
+    let exponent = f64_to_bits_with_nan(v) / 0x0010_0000_0000_0000 % 2048;
+    if exponent == 2047 {
         Reading::Uncalibrated
+    } else {
+        Reading::Radiance(v)
     }
 }
 
