@@ -1,2 +1,4 @@
 -- The laws that the proofs cite.
+pub mod Days
+pub mod Digits
 pub mod Rows

@@ -8,19 +8,19 @@ pub returns : goal.returns
 unfolding spelling
 returns c =
     puts 43 refl
-    (next c.put4.ensures
-    (next c.put_decimal2.ensures
+    (next c.put_bytes.ensures
+    (next (rw (c.decimal.ensures, c.from.ensures) at c.put_bytes-2.ensures)
     (next c.put_byte.ensures
-    (next c.put8.ensures
+    (next c.put_bytes-3.ensures
     (next c.put_byte-2.ensures
-    (next c.put_decimal4.ensures
-    (next c.put2.ensures
-    (next c.put_decimal2-2.ensures
+    (next (rw (c.decimal-2.ensures, c.from-2.ensures) at c.put_bytes-4.ensures)
+    (next c.put_bytes-5.ensures
+    (next (rw (c.decimal-3.ensures, c.from-3.ensures) at c.put_bytes-6.ensures)
     (next c.put_byte-3.ensures
-    (next c.put4-2.ensures
-    (next c.put2-2.ensures
-    (next {w = 2} (rw (← c.band_of-resolution.ensures) c.put_decimal2-3.ensures)
-    (next c.put2-3.ensures
-    (next c.put_decimal2-4.ensures
-    (next c.put_decimal2-5.ensures
-    (next c.put4-3.ensures done))))))))))))))))
+    (next c.put_bytes-7.ensures
+    (next c.put_bytes-8.ensures
+    (next {w = 2} (rw (c.decimal-4.ensures, c.from-4.ensures, c.band_of.ensures) at c.put_bytes-9.ensures)
+    (next c.put_bytes-10.ensures
+    (next (rw (c.decimal-5.ensures, c.from-5.ensures) at c.put_bytes-11.ensures)
+    (next (rw (c.decimal-6.ensures, c.from-6.ensures) at c.put_bytes-12.ensures)
+    (next c.put_bytes-13.ensures done))))))))))))))))
