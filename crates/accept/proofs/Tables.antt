@@ -1,14 +1,14 @@
 -- The checks of a file, by name: what it means that every test of each table holds.
 -- Assumes nothing.
 use mathlib.Core.Path.{◌≡◌}
-use mathlib.Core.List.{List}
+use mathlib.Core.List.{List, [], ◌∷◌}
 use Prim.Native.Nat.{ℕ, ◌+◌, ◌*◌, ◌-◌, ◌≤◌}
 use lib.ListN.{length, get_or}
 use borrow.Author.Tests.{leb-true, eqb-true, le-leb, eq-eqb}
 use Rattle.wire.specs.Wire.{span, num}
-use Rattle.rules.specs.Rules.{judge, fine}
+use Rattle.rules.specs.Rules.{Row, judge, fine}
 use Rattle.rules.proofs.Judge.{Holds, holds, exactly, each_is, each_of}
-use Rattle.header.specs.Places.{order_of, a_of, b_of, c_of, at9, at10, at11, length_of, data_length}
+use Rattle.header.specs.Places.{order_of, a_of, b_of, c_of, at2, at3, at4, at5, at6, at7, at8, at9, at10, at11, length8, length9, length10, length_of, data_length}
 use Rattle.header.specs.Values.{block1_of, block2_of, block5_of, block7_of}
 use Rattle.accept.specs.Checks.{shape, entries, shape1, fields1, fixed2, fields2, fixed5, fields5, fields7, sums, names, ends, blocks1to4, blocks5to7, blocks8to11, whole, checks}
 
@@ -94,6 +94,55 @@ pub record Whole (s : List ℕ) (o header counts : ℕ) : Type 0 where
 abbrev pub data_of : List ℕ → ℕ
 data_of s = data_length (block2_of s (order_of s)).columns (block2_of s (order_of s)).lines
 
+-- the tables that the checks are made of, part by part
+module _ (s : List ℕ) where
+  abbrev o : ℕ
+  o = order_of s
+
+  abbrev fronts : List (List Row)
+  fronts =
+      shape1 s o
+      ∷ fields1 (block1_of s o)
+      ∷ shape s o 2 at2 50
+      ∷ fixed2 s o
+      ∷ fields2 (block2_of s o)
+      ∷ shape s o 3 at3 127
+      ∷ shape s o 4 at4 139
+      ∷ []
+
+  abbrev middles : List (List Row)
+  middles =
+      shape s o 5 at5 147
+      ∷ fixed5 s o
+      ∷ fields5 (block5_of s o)
+      ∷ shape s o 6 at6 259
+      ∷ shape s o 7 at7 47
+      ∷ fields7 (block7_of s o) (block2_of s o).lines
+      ∷ []
+
+  abbrev lists : List (List Row)
+  lists =
+      entries s 8 at8 (num o (span s (at8 + 1) 2)) 61 (length8 (a_of s))
+      ∷ entries s 9 (at9 (a_of s)) (num o (span s (at9 (a_of s) + 1) 2)) 45 (length9 (b_of s))
+      ∷ entries s 10 (at10 (a_of s) (b_of s)) (num o (span s (at10 (a_of s) (b_of s) + 1) 4)) 47 (length10 (c_of s))
+      ∷ shape s o 11 (at11 (a_of s) (b_of s) (c_of s)) 259
+      ∷ []
+
+  abbrev wholes : List (List Row)
+  wholes =
+      sums s o (length_of s) (data_of s)
+      ∷ names (block1_of s o) (block5_of s o) (block7_of s o)
+      ∷ ends s (length_of s) (data_of s)
+      ∷ []
+
+  abbrev parts : List (List Row)
+  parts =
+      blocks1to4 s o
+      ∷ blocks5to7 s o
+      ∷ blocks8to11 s o (a_of s) (b_of s) (c_of s)
+      ∷ whole s o (length_of s) (data_of s)
+      ∷ []
+
 -- the checks of a file, by name
 pub record Accepted (s : List ℕ) : Type 0 where
   pub shape1 : Shape1 s (order_of s)
@@ -121,11 +170,11 @@ pub record Accepted (s : List ℕ) : Type 0 where
 pub accepted : (s : List ℕ) → judge fine (checks s) ≡ fine → Accepted s
 unfolding checks blocks1to4 blocks5to7 blocks8to11 whole fixed2 fixed5 sums ends
 accepted s e =
-    let h = each_is _ ((exactly (checks s)).0 e) in
-    let f = each_is _ h.0 in
-    let m = each_is _ h.1.0 in
-    let l = each_is _ h.1.1.0 in
-    let w = each_is _ h.1.1.1.0 in
+    let h = each_is (parts s) ((exactly (checks s)).0 e) in
+    let f = each_is (fronts s) h.0 in
+    let m = each_is (middles s) h.1.0 in
+    let l = each_is (lists s) h.1.1.0 in
+    let w = each_is (wholes s) h.1.1.1.0 in
     record {
       shape1 = shape1_is _ _ f.0;
       fields1 = f.1.0;
@@ -156,49 +205,46 @@ accepted s e =
 
 -- where each check holds, none fails
 module _ (s : List ℕ) (h : Accepted s) where
-  abbrev o : ℕ
-  o = order_of s
-
-  front : Holds (blocks1to4 s o)
+  front : Holds (blocks1to4 s (o s))
   unfolding blocks1to4 fixed2
   front =
-      each_of _
-      (holds (shape1_of s o h.shape1)
+      each_of (fronts s)
+      (holds (shape1_of s (o s) h.shape1)
       (holds h.fields1
-      (holds (shape_of s o 2 282 50 h.shape2)
+      (holds (shape_of s (o s) 2 282 50 h.shape2)
       (holds (holds (eq-eqb _ _ h.bits) tt)
       (holds h.fields2
-      (holds (shape_of s o 3 332 127 h.shape3)
-      (holds (shape_of s o 4 459 139 h.shape4) tt)))))))
+      (holds (shape_of s (o s) 3 332 127 h.shape3)
+      (holds (shape_of s (o s) 4 459 139 h.shape4) tt)))))))
 
-  middle : Holds (blocks5to7 s o)
+  middle : Holds (blocks5to7 s (o s))
   unfolding blocks5to7 fixed5
   middle =
-      each_of _
-      (holds (shape_of s o 5 598 147 h.shape5)
+      each_of (middles s)
+      (holds (shape_of s (o s) 5 598 147 h.shape5)
       (holds (holds (eq-eqb _ _ h.error) (holds (eq-eqb _ _ h.outside) tt))
       (holds h.fields5
-      (holds (shape_of s o 6 745 259 h.shape6)
-      (holds (shape_of s o 7 1004 47 h.shape7)
+      (holds (shape_of s (o s) 6 745 259 h.shape6)
+      (holds (shape_of s (o s) 7 1004 47 h.shape7)
       (holds h.fields7 tt))))))
 
-  lists : Holds (blocks8to11 s o (a_of s) (b_of s) (c_of s))
+  entered : Holds (blocks8to11 s (o s) (a_of s) (b_of s) (c_of s))
   unfolding blocks8to11
-  lists =
-      each_of _
+  entered =
+      each_of (lists s)
       (holds (entered_of _ _ _ _ _ _ h.block8)
       (holds (entered_of _ _ _ _ _ _ h.block9)
       (holds (entered_of _ _ _ _ _ _ h.block10)
       (holds (shape_of _ _ _ _ _ h.shape11) tt))))
 
-  all : Holds (whole s o (length_of s) (data_of s))
+  all : Holds (whole s (o s) (length_of s) (data_of s))
   unfolding whole sums ends
   all =
-      each_of _
+      each_of (wholes s)
       (holds (holds (eq-eqb _ _ h.whole.header_sum) (holds (eq-eqb _ _ h.whole.data_sum) tt))
       (holds h.names
       (holds (holds (le-leb _ _ h.whole.cut) (holds (le-leb _ _ h.whole.tail) tt)) tt)))
 
   pub accepting : judge fine (checks s) ≡ fine
   unfolding checks
-  accepting = (exactly (checks s)).1 (each_of _ (holds front (holds middle (holds lists (holds all tt)))))
+  accepting = (exactly (checks s)).1 (each_of (parts s) (holds front (holds middle (holds entered (holds all tt)))))

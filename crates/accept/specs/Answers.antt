@@ -1,14 +1,12 @@
 -- What is said of a file.
 use Rattle.std.specs.Prelude.{ℕ, List}
 use Rattle.wire.specs.Wire.{num}
-use Rattle.rules.specs.Rules.{paper_of, fine, judge, Reply, says, refuses, reply}
+use Rattle.rules.specs.Rules.{fine, judge, Reply, reply}
 use Rattle.format.specs.Ranges.{satellite_of}
 use Rattle.format.specs.Names.{date_of, day_or_0}
 use Rattle.reading.specs.declared.Calibration.{Calibration}
 use Rattle.reading.specs.Counts.{calibration_of}
 use Rattle.accept.specs.declared.Facts.{Facts}
-use Rattle.accept.specs.declared.Answer.{Answer}
-use Rattle.accept.specs.declared.Answer.TheVariants.{Accepted, Refused}
 use Rattle.header.specs.Places.{order_of, a_of, b_of, c_of, length_of}
 use Rattle.header.specs.Values.{block1_of, block2_of, block5_of, block7_of}
 use Rattle.accept.specs.Checks.{checks}
@@ -42,11 +40,6 @@ facts_of s =
 -- gain and constant travel together from block 5, with the band's valid bits
 unfoldable pub calibration_in : Facts → Calibration
 calibration_in f = calibration_of f.gain f.constant f.bits
-
--- the paper's words for each answer
-unfoldable pub paper_answer : Answer → Reply Facts
-paper_answer (Accepted f) = says f
-paper_answer (Refused t) = refuses (paper_of t)
 
 -- the facts where no check fails, and else the first refusal
 unfoldable pub answer_of : List ℕ → Reply Facts

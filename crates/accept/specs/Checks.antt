@@ -30,6 +30,10 @@ long k at stated n = row (eqb stated n) 4 k (at + 1)
 abbrev fixed : List ℕ → ℕ → ℕ → ℕ → ℕ → Row
 fixed s o k at n = row (eqb (num o (span s at 2)) n) 5 k at
 
+-- how block k starts, before its entries or fields: room for so much, its number, and its length
+unfoldable pub begins : List ℕ → ℕ → ℕ → ℕ → ℕ → ℕ → List Row
+begins s k at stated least full = short s k at least ∷ number s k at ∷ long k at stated full ∷ []
+
 -- a block of fixed length n: 2 to 7 and 11
 unfoldable pub shape : List ℕ → ℕ → ℕ → ℕ → ℕ → List Row
 shape s o k at n = short s k at n ∷ number s k at ∷ long k at (num o (span s (at + 1) 2)) n ∷ []
