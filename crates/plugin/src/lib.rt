@@ -1,7 +1,6 @@
 #![tactic(auto)]
 // What the compositors' plug-in calls from C, by way of `panulimbe`, thin over the proved library.
 ghost use Rattle.std.specs.Prelude.{◌≡◌};
-ghost use Rattle.rules.specs.Rules.{paper};
 ghost use Rattle.accept.specs.Answers.{answer_of};
 ghost use Rattle.calendar.specs.Dates.{day_of};
 ghost use Rattle.calendar.specs.Shots.{film_frame_of};
@@ -9,16 +8,15 @@ ghost use Rattle.reading.specs.Counts.{reading_of};
 ghost use Rattle.reading.specs.Quality.{marks_of};
 ghost use Rattle.format.specs.Bands.{band_of};
 ghost use Rattle.format.specs.Names.{day_or_0};
-ghost use Rattle.plugin.specs.Plugin.{shown_ruling, refused_file, shown_file, calibrated, calibration_c, no_radiance, shown_reading, shown_mark, shown_marks, shown_frame};
+ghost use Rattle.plugin.specs.Plugin.{shown_file, calibrated, calibration_c, shown_reading, shown_mark, shown_marks, shown_frame};
 
-use accept::Answer;
-use calendar::FilmFrame;
-use reading::{Calibration, Mark, Reading};
-use rules::Verdict;
+use accept::Facts;
+use reading::{Calibration, Mark, Marks, Reading};
+use rules::Refusal;
 
 // refusal is 0 where nothing is wrong.
 #[repr(C)]
-#[derive(Clone, Copy)]
+#[derive(Clone, Copy, Default)]
 pub struct HsdAnswer {
     pub refusal: u8,
     pub block: u8,
@@ -27,29 +25,28 @@ pub struct HsdAnswer {
 }
 
 // A verdict in numbers.
-pub fn answer_of(v: Verdict) -> HsdAnswer
-    ensures { result ≡ shown_ruling (paper v) }
-{
-    match v {
-        Verdict::Fine => HsdAnswer {
-            refusal: 0,
-            block: 0,
-            offset: 0,
-        },
-        Verdict::Refused(t) => {
-            let why = t.why;
-            HsdAnswer {
-                refusal: rules::number_of(why),
+impl From<Result<(), Refusal>> for HsdAnswer {
+    ghost use Rattle.rules.specs.Rules.{paper};
+    ghost use Rattle.plugin.specs.Plugin.{shown_ruling};
+
+    #[tactic(auto, unfolding(crate::specs::Plugin::shown_ruling))]
+    fn from(verdict: Result<(), Refusal>) -> HsdAnswer
+        ensures { result ≡ shown_ruling (paper verdict) }
+    {
+        match verdict {
+            Ok(()) => HsdAnswer::default(),
+            Err(t) => HsdAnswer {
+                refusal: rules::number_of(t.why),
                 block: t.block,
                 offset: t.offset,
-            }
+            },
         }
     }
 }
 
 // refusal, block and offset are 0 for an accepted file, and everything else is 0 for a refused one.
 #[repr(C)]
-#[derive(Clone, Copy)]
+#[derive(Clone, Copy, Default)]
 pub struct HsdFile {
     pub refusal: u8,
     pub block: u8,
@@ -77,66 +74,53 @@ pub struct HsdFile {
     pub constant: f64,
 }
 
-pub fn hsd_accept(file: &[u8]) -> HsdFile
-    ensures { result ≡ shown_file (answer_of file.now) }
-{
-    let answer = accept::accept(file);
-    match answer {
-        Answer::Accepted(f) => {
-            let cal = accept::calibration(f);
-            HsdFile {
-                refusal: 0,
-                block: 0,
-                satellite: f.satellite,
-                quality: f.quality,
-                offset: 0,
-                day: f.day,
-                timeline: f.timeline,
-                band: f.band,
-                area: f.area,
-                columns: f.columns,
-                lines: f.lines,
-                number: f.number,
-                total: f.total,
-                first_line: f.first,
-                valid_bits: cal.bits,
-                order: f.order,
-                header_length: f.header,
-                gain: cal.gain,
-                constant: cal.constant,
+impl From<Result<Facts, Refusal>> for HsdFile {
+    ghost use Rattle.rules.specs.Rules.{paper_reply};
+    ghost use Rattle.plugin.specs.Plugin.{shown_file};
+
+    #[tactic(auto, unfolding(crate::specs::Plugin::shown_file))]
+    fn from(answer: Result<Facts, Refusal>) -> HsdFile
+        ensures { result ≡ shown_file (paper_reply answer) }
+    {
+        match answer {
+            Ok(f) => {
+                let cal = accept::calibration(f);
+                HsdFile {
+                    refusal: 0,
+                    block: 0,
+                    satellite: f.satellite,
+                    quality: f.quality,
+                    offset: 0,
+                    day: f.day,
+                    timeline: f.timeline,
+                    band: f.band,
+                    area: f.area,
+                    columns: f.columns,
+                    lines: f.lines,
+                    number: f.number,
+                    total: f.total,
+                    first_line: f.first,
+                    valid_bits: cal.bits,
+                    order: f.order,
+                    header_length: f.header,
+                    gain: cal.gain,
+                    constant: cal.constant,
+                }
             }
-        }
-        Answer::Refused(t) => {
-            let why = t.why;
-            refused(rules::number_of(why), t.block, t.offset)
+            Err(t) => HsdFile {
+                refusal: rules::number_of(t.why),
+                block: t.block,
+                offset: t.offset,
+                ..HsdFile::default()
+            },
         }
     }
 }
 
-fn refused(refusal: u8, block: u8, offset: u32) -> HsdFile
-    ensures { result ≡ refused_file refusal block offset }
+pub fn hsd_accept(file: &[u8]) -> HsdFile
+    ensures { result ≡ shown_file (answer_of file.now) }
 {
-    HsdFile {
-        refusal,
-        block,
-        satellite: 0,
-        quality: 0,
-        offset,
-        day: 0,
-        timeline: 0,
-        band: 0,
-        area: 0,
-        columns: 0,
-        lines: 0,
-        number: 0,
-        total: 0,
-        first_line: 0,
-        valid_bits: 0,
-        order: 0,
-        header_length: 0,
-        gain: 0.0,
-        constant: 0.0,
-    }
+    HsdFile::from(accept::accept(file))
 }
 
 // kind: 0 radiance, 1 error pixel, 2 outside, 3 over range, 4 uncalibrated. radiance is 0 for every kind but 0.
@@ -147,25 +131,37 @@ pub struct HsdReading {
     pub kind: u8,
 }
 
+impl From<Reading> for HsdReading {
+    ghost use Rattle.plugin.specs.Plugin.{shown_reading};
+
+    fn from(reading: Reading) -> HsdReading
+        ensures { result ≡ shown_reading reading }
+    {
+        let kind = match reading {
+            Reading::Radiance(radiance) => return HsdReading { radiance, kind: 0 },
+            Reading::ErrorPixel => 1,
+            Reading::Outside => 2,
+            Reading::OverRange => 3,
+            Reading::Uncalibrated => 4,
+        };
+        HsdReading {
+            radiance: 0.0,
+            kind,
+        }
+    }
+}
+
 pub fn hsd_read_count(gain: f64, constant: f64, bits: u16, count: u16) -> HsdReading
     ensures { result ≡ shown_reading (reading_of (calibrated gain constant bits) count) }
 {
-    let cal = Calibration {
-        gain,
-        constant,
-        bits,
-    };
-    let reading = reading::read(cal, count);
-    match reading {
-        Reading::Radiance(x) => HsdReading {
-            radiance: x,
-            kind: 0,
+    HsdReading::from(reading::read(
+        Calibration {
+            gain,
+            constant,
+            bits,
         },
-        Reading::ErrorPixel => no_radiance(1),
-        Reading::Outside => no_radiance(2),
-        Reading::OverRange => no_radiance(3),
-        Reading::Uncalibrated => no_radiance(4),
-    }
+        count,
+    ))
 }
 
 // The reading of a count by the file that it stands in: gain, constant and valid bits travel together.
@@ -173,15 +169,6 @@ pub fn hsd_reading(file: HsdFile, count: u16) -> HsdReading
     ensures { result ≡ shown_reading (reading_of (calibration_c file) count) }
 {
     hsd_read_count(file.gain, file.constant, file.valid_bits, count)
-}
-
-fn no_radiance(kind: u8) -> HsdReading
-    ensures { result ≡ no_radiance kind }
-{
-    HsdReading {
-        radiance: 0.0,
-        kind,
-    }
 }
 
 // The marks of quality flag 1, each 0 no, 1 yes or 2 not known.
@@ -198,48 +185,69 @@ pub struct HsdQuality {
     pub eclipse: u8,
 }
 
-pub fn hsd_quality(quality: u8) -> HsdQuality
-    ensures { result ≡ shown_marks (marks_of quality) }
-{
-    let m = reading::marks_of(quality);
-    let invalid = m.invalid;
-    let sun = m.sun;
-    let moon = m.moon;
-    let test = m.test;
-    let manoeuvre = m.manoeuvre;
-    let unloading = m.unloading;
-    let solar_calibration = m.solar_calibration;
-    let eclipse = m.eclipse;
-    HsdQuality {
-        invalid: shown_mark(invalid),
-        sun: shown_mark(sun),
-        moon: shown_mark(moon),
-        test: shown_mark(test),
-        manoeuvre: shown_mark(manoeuvre),
-        unloading: shown_mark(unloading),
-        solar_calibration: shown_mark(solar_calibration),
-        eclipse: shown_mark(eclipse),
+impl From<Marks> for HsdQuality {
+    ghost use Rattle.plugin.specs.Plugin.{shown_marks};
+
+    #[tactic(auto, unfolding(crate::specs::Plugin::shown_marks))]
+    fn from(marks: Marks) -> HsdQuality
+        ensures { result ≡ shown_marks marks }
+    {
+        HsdQuality {
+            invalid: shown_mark(marks.invalid),
+            sun: shown_mark(marks.sun),
+            moon: shown_mark(marks.moon),
+            test: shown_mark(marks.test),
+            manoeuvre: shown_mark(marks.manoeuvre),
+            unloading: shown_mark(marks.unloading),
+            solar_calibration: shown_mark(marks.solar_calibration),
+            eclipse: shown_mark(marks.eclipse),
+        }
     }
 }
 
 fn shown_mark(mark: Mark) -> u8
     ensures { result ≡ shown_mark mark }
 {
-    match mark {
-        Mark::No => 0,
-        Mark::Yes => 1,
-        Mark::NotKnown => 2,
-    }
+    mark as u8
+}
+
+pub fn hsd_quality(quality: u8) -> HsdQuality
+    ensures { result ≡ shown_marks (marks_of quality) }
+{
+    HsdQuality::from(reading::marks_of(quality))
 }
 
 // refusal is 0 for a number, and number is 0 for a refusal.
 #[repr(C)]
-#[derive(Clone, Copy)]
+#[derive(Clone, Copy, Default)]
 pub struct HsdFrameNumber {
     pub refusal: u8,
     pub block: u8,
     pub offset: u32,
     pub number: i64,
+}
+
+impl From<Result<i64, Refusal>> for HsdFrameNumber {
+    ghost use Rattle.rules.specs.Rules.{paper_reply};
+    ghost use Rattle.plugin.specs.Plugin.{shown_frame};
+
+    #[tactic(auto, unfolding(crate::specs::Plugin::shown_frame))]
+    fn from(frame: Result<i64, Refusal>) -> HsdFrameNumber
+        ensures { result ≡ shown_frame (paper_reply frame) }
+    {
+        match frame {
+            Ok(number) => HsdFrameNumber {
+                number,
+                ..HsdFrameNumber::default()
+            },
+            Err(t) => HsdFrameNumber {
+                refusal: rules::number_of(t.why),
+                block: t.block,
+                offset: t.offset,
+                number: 0,
+            },
+        }
+    }
 }
 
 pub fn hsd_frame_number(
@@ -250,31 +258,14 @@ pub fn hsd_frame_number(
 ) -> HsdFrameNumber
     ensures { result ≡ shown_frame (film_frame_of first_day first_timeline day timeline) }
 {
-    let frame = calendar::frame_number(first_day, first_timeline, day, timeline);
-    match frame {
-        FilmFrame::Number(number) => HsdFrameNumber {
-            refusal: 0,
-            block: 0,
-            offset: 0,
-            number,
-        },
-        FilmFrame::Refused(t) => {
-            let why = t.why;
-            HsdFrameNumber {
-                refusal: rules::number_of(why),
-                block: t.block,
-                offset: t.offset,
-                number: 0,
-            }
-        }
-    }
+    HsdFrameNumber::from(calendar::frame_number(first_day, first_timeline, day, timeline))
 }
 
 // The Modified Julian Day of a date, or 0 where it is not a real one of 2000 to 2099.
 pub fn hsd_day(year: u16, month: u8, day: u8) -> u32
     ensures { result ≡ day_or_0 (day_of year month day) }
 {
-    format::day_or_0(calendar::day_of(year as u32, month as u32, day as u32))
+    format::day_or_0(calendar::day_of(year.into(), month.into(), day.into()))
 }
 
 // The valid bits of a band, or 0 for what is no band.
