@@ -5,4 +5,4 @@ use Rattle.samples.proofs.put_head.Goals as goal
 
 pub returns : goal.returns
 returns c =
-    puts 3 refl (next c.put_byte.ensures (next c.put_u16.ensures done))
+    puts 3 refl (next c.put_byte.ensures (next c.put_number.ensures done))
