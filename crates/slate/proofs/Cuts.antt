@@ -11,7 +11,7 @@ use lib.Dec.{leb, ltb}
 use borrow.Author.Tests.{leb-true, leb-false, ltb-true, ltb-false, le-leb, lt-leb}
 use Rattle.format.specs.Ranges.{good_size, good_total}
 use Rattle.slate.specs.Cut.{height_of, lines_to, all_tall, good_cut, last_to, cover_of}
-use Rattle.slate.specs.Slates.{good_shot, good_slate, size_of, start_of, frame_lines, frame_size, has_line}
+use Rattle.slate.specs.Slates.{good_shot, good_slate, size_of, start_of, frame_lines, frame_size, has_line, cover_or_0}
 use Rattle.slate.specs.declared.Slate.{Slate}
 
 -- a product of two bounded numbers
@@ -53,6 +53,9 @@ tall_not s k (suc n) h e = ⊎_elim here (λ l. rw (tall_not s k n l e)) (eq-or-
   where
     here : k ≡ n → (all_tall s n && leb 1 (height_of s (suc n))) ≡ false
     here q = let z : height_of s (suc n) < 1 = (rw (q, add-one) at e) in rw (lt-leb 1 _ z) (and-false (all_tall s n))
+
+-- the turns of a loop over the heights
+pub ruleset turns = (lines_none, lines_next, tall_none, tall_next, tall_not)
 
 -- segment k is one of the slate's, and covers the line
 pub record Covers (s : Slate) (line k : ℕ) : Type 0 where
@@ -145,3 +148,18 @@ inside s line e =
     let b = leb-true line (frame_lines s) e2.1 in
     let g = good s e1.0 in
     record { ok = e1.0; slate = g; some = a; last = b; cover = covers s line g.cut a b }
+
+-- what covers a line of the frame is the answer
+pub cover_is : (s : Slate) (line k : ℕ) → has_line s line ≡ true → 1 ≤ k → k ≤ s.total → lines_to s (k - 1) < line → line ≤ lines_to s k → cover_or_0 s line ≡ k
+unfolding cover_or_0
+cover_is s line k e a b c d = rw e (cover_one s line _ k (inside s line e).cover (record { some = a; most = b; after = c; upto = d }))
+
+pub cover_none : (s : Slate) (line : ℕ) → has_line s line ≡ false → cover_or_0 s line ≡ 0
+unfolding cover_or_0
+cover_none s line e = rw e
+
+pub line_from : (s : Slate) (line : ℕ) → has_line s line ≡ true → (1 ≤ line) × (1 ≤ s.total) × (line ≤ lines_to s s.total)
+line_from s line e = let i = inside s line e in (i.some, i.slate.total, i.last)
+
+-- a turn of the loop that looks for it
+pub ruleset covering = (lines_none, lines_step, cover_is, cover_none, line_from)

@@ -1,25 +1,24 @@
 -- The paper's words tell the answers apart: the way of saying them has an inverse. Assumes nothing.
 use mathlib.Core.Path.{◌≡◌, refl, sym, ap, ◌∙◌}
-use Rattle.rules.specs.Rules.{Reply, says, refuses}
+use Rattle.std.specs.Prelude.{Option, Result, Ok, Err}
+use Rattle.rules.specs.Rules.{Reply, says, refuses, paper_reply}
+use Rattle.rules.specs.declared.Refusal.{Refusal}
 use Rattle.rules.proofs.Paper.{refusal_of, refusal_paper, paper_one}
 use Rattle.slate.specs.declared.Slate.{Slate}
 use Rattle.slate.specs.declared.Slated.{Slated}
-use Rattle.slate.specs.declared.Compared.{Compared}
-use Rattle.slate.specs.declared.Reason.{Reason}
-use Rattle.slate.specs.declared.Reason.TheVariants as reason
-use Rattle.slate.specs.Slates.{SlatedAs, paper_reason}
+use Rattle.slate.specs.declared.Difference.{Difference}
+use Rattle.slate.specs.Slates.{SlatedAs}
 
 pub slated_one : {s : Slate} (x y : Slated) → SlatedAs s x → SlatedAs s y → x ≡ y
 slated_one x y p q = λ i. record { verdict = paper_one x.verdict y.verdict (p.says ∙ sym q.says) i; slate = (p.is ∙ sym q.is) i }
 
-abbrev reason_as : Reply Compared → Reason
-reason_as (says c) = reason.Compared c
-reason_as (refuses t) = reason.Refused (refusal_of t)
+abbrev reply_as : {A : Type 0} → Reply A → Result A Refusal
+reply_as (says a) = Ok a
+reply_as (refuses t) = Err (refusal_of t)
 
-reason_back : (r : Reason) → reason_as (paper_reason r) ≡ r
-unfolding paper_reason
-reason_back (reason.Compared c) = refl
-reason_back (reason.Refused t) = ap reason.Refused (refusal_paper t)
+reply_back : {A : Type 0} (r : Result A Refusal) → reply_as (paper_reply r) ≡ r
+reply_back (Ok a) = refl
+reply_back (Err t) = ap Err (refusal_paper t)
 
-pub paper_reason_one : (x y : Reason) → paper_reason x ≡ paper_reason y → x ≡ y
-paper_reason_one x y e = sym (reason_back x) ∙ ap reason_as e ∙ reason_back y
+pub paper_reason_one : (x y : Result (Option Difference) Refusal) → paper_reply x ≡ paper_reply y → x ≡ y
+paper_reason_one x y e = sym (reply_back x) ∙ ap reply_as e ∙ reply_back y

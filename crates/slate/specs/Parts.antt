@@ -1,12 +1,11 @@
 -- The parts that a slate and a file both have, in the paper's order, and the first in which the two differ.
-use Rattle.std.specs.Prelude.{ℕ, ◌+◌, ◌-◌, Bool, true, false, cond, List, [], ◌∷◌, ◌++◌, eqb}
+use Rattle.std.specs.Prelude.{ℕ, ◌+◌, ◌-◌, cond, List, [], ◌∷◌, ◌++◌, Option, None, Some, eqb}
 use Rattle.accept.specs.declared.Facts.{Facts}
 use Rattle.slate.specs.Cut.{height_of, lines_to}
 use Rattle.slate.specs.declared.Slate.{Slate}
 use Rattle.slate.specs.declared.Part.{Part}
 use Rattle.slate.specs.declared.Part.TheVariants.{Satellite, Day, Timeline, Band, Area, Columns, Total, Lines, FirstLine}
-use Rattle.slate.specs.declared.Compared.{Compared}
-use Rattle.slate.specs.declared.Compared.TheVariants.{Agrees, Differs}
+use Rattle.slate.specs.declared.Difference.{Difference}
 
 -- a part: what the slate says of it, and what the file says
 pub data Sides : Type 0 where
@@ -36,19 +35,15 @@ abbrev pub parts : Slate → Facts → List Sides
 parts s f = shot_parts s f ++ cut_parts s f
 
 -- one part more, on top of what the parts before it said: the first that differs answers
-unfoldable pub further : Compared → Part → ℕ → ℕ → Compared
-further (Differs d) part slate file = Differs d
-further Agrees part slate file = cond (eqb slate file) Agrees (Differs (record { part = part; slate = slate; file = file }))
+abbrev pub further : Option Difference → Part → ℕ → ℕ → Option Difference
+further (Some d) part slate file = Some d
+further None part slate file = cond (eqb slate file) None (Some (record { part = part; slate = slate; file = file }))
 
 -- parts compared in their order
-abbrev pub compare_all : Compared → List Sides → Compared
+abbrev pub compare_all : Option Difference → List Sides → Option Difference
 compare_all c [] = c
 compare_all c (sides part slate file ∷ ps) = compare_all (further c part slate file) ps
 
--- a slate and what a file is known by: they agree, or the first part that differs, with the value on each side
-abbrev pub comparing : Slate → Facts → Compared
-comparing s f = compare_all Agrees (parts s f)
-
-abbrev pub is_agrees : Compared → Bool
-is_agrees Agrees = true
-is_agrees (Differs d) = false
+-- a slate and what a file is known by: none where they agree, or the first part that differs, with the value on each side
+abbrev pub comparing : Slate → Facts → Option Difference
+comparing s f = compare_all None (parts s f)

@@ -1,7 +1,7 @@
 -- A slate: the shot that a frame is for, and the sizes of the frame.
-use Rattle.std.specs.Prelude.{ℕ, ◌+◌, ◌*◌, ◌-◌, Bool, ◌&&◌, ◌||◌, cond, List, [], ◌∷◌, ◌≡◌, leb, ltb, eqb, get_or, replicate}
+use Rattle.std.specs.Prelude.{ℕ, ◌+◌, ◌*◌, ◌-◌, Bool, ◌&&◌, ◌||◌, cond, List, [], ◌∷◌, ◌≡◌, Option, is_none, leb, ltb, eqb, get_or, replicate}
 use Rattle.wire.specs.Wire.{digits, tab}
-use Rattle.rules.specs.Rules.{paper, paper_of, fine, Row, row, tables, judge, after, Reply, says, refuses, reply}
+use Rattle.rules.specs.Rules.{paper, fine, Row, row, tables, judge, after, Reply, reply}
 use Rattle.calendar.specs.Shots.{good_day, good_timeline}
 use Rattle.format.specs.Ranges.{good_area, good_size, good_total}
 use Rattle.format.specs.Bands.{good_band}
@@ -9,12 +9,10 @@ use Rattle.accept.specs.declared.Facts.{Facts}
 use Rattle.accept.specs.Checks.{checks}
 use Rattle.accept.specs.Answers.{facts_of}
 use Rattle.slate.specs.Cut.{height_of, lines_to, good_cut, cover_of}
-use Rattle.slate.specs.Parts.{comparing, is_agrees}
+use Rattle.slate.specs.Parts.{comparing}
 use Rattle.slate.specs.declared.Slate.{Slate}
 use Rattle.slate.specs.declared.Slated.{Slated}
-use Rattle.slate.specs.declared.Compared.{Compared}
-use Rattle.slate.specs.declared.Reason.{Reason}
-use Rattle.slate.specs.declared.Reason.TheVariants as reason
+use Rattle.slate.specs.declared.Difference.{Difference}
 
 -- the parts that name the shot are in range
 abbrev pub good_shot : Slate → Bool
@@ -90,16 +88,12 @@ cover_or_0 s line = cond (has_line s line) (cover_of s line) 0
 
 -- an accepted file is a segment of the slate's frame when all parts agree
 abbrev pub matching : Slate → Facts → Bool
-matching s f = is_agrees (comparing s f)
-
-unfoldable pub paper_reason : Reason → Reply Compared
-paper_reason (reason.Compared c) = says c
-paper_reason (reason.Refused t) = refuses (paper_of t)
+matching s f = is_none (comparing s f)
 
 -- asking why: 13, then the file
 unfoldable pub asking : Slate → List ℕ → List Row
 asking s f = tables (slated s ∷ checks f ∷ [])
 
 -- the first refusal, or what comparing slate and file says
-unfoldable pub reason_of : Slate → List ℕ → Reply Compared
+unfoldable pub reason_of : Slate → List ℕ → Reply (Option Difference)
 reason_of s f = reply (judge fine (asking s f)) (comparing s (facts_of f))

@@ -1,14 +1,15 @@
 #![tactic(auto)]
 // The slate of a frame: which shot is on it, how its lines are cut into segments, and which files it is for.
-ghost use Rattle.std.specs.Prelude.{◌≡◌, cond, ◌+◌, ◌*◌, ◌-◌, ◌≤◌};
-ghost use Rattle.wire.specs.Wire.{digits};
-ghost use Rattle.rules.specs.Rules.{paper, judge};
+ghost use Rattle.std.specs.Prelude.{◌≡◌, ◌+◌, ◌*◌, ◌-◌, ◌≤◌, None};
+ghost use Rattle.std.specs.Result.{result_err};
+ghost use Rattle.rules.specs.Rules.{paper, paper_reply, fine, judge};
 ghost use Rattle.slate.specs.Cut.{height_in, height_of, lines_to, all_tall, good_cut};
 ghost use Rattle.slate.specs.Parts.{shot_parts, cut_parts, further, compare_all, comparing};
-ghost use Rattle.slate.specs.Slates.{good_slate, slated, kept_of, parts_of, blank, SlatedAs, size_of, start_of, frame_size, place_of, has_line, cover_or_0, matching, paper_reason, reason_of};
+ghost use Rattle.slate.specs.Slates.{good_slate, slated, kept_of, parts_of, blank, SlatedAs, size_of, start_of, frame_size, place_of, has_line, cover_or_0, matching, reason_of};
 
 use accept::Facts;
-use rules::{Refusal, Verdict, Why};
+use rules::{Refusal, Why, require};
+use wire::Word;
 
 // A line and a column of the frame, both counted from 1; neither stands for the other.
 #[derive(Clone, Copy)]
@@ -32,47 +33,34 @@ pub struct Slate {
     heights: [u16; 99],
 }
 
-// The verdict on a slate's parts, and the slate; refused parts make none, and it is blank.
+// The verdict on a slate's parts, and the slate; refused parts make none, and it is blank. Two fields and not one Result, since
+// `is` of SlatedAs says which slate a refusal hands back.
 #[derive(Clone, Copy)]
 pub struct Slated {
-    pub verdict: Verdict,
+    pub verdict: Result<(), Refusal>,
     pub slate: Slate,
 }
 
-// The parts of a slate that a file has, too, in the paper's order.
-#[derive(Clone, Copy)]
+// The parts of a slate that a file has, too, in the paper's order, which counts them from 1.
+#[derive(Clone, Copy, Debug, PartialEq, Eq)]
 pub enum Part {
-    Satellite,
-    Day,
-    Timeline,
-    Band,
-    Area,
-    Columns,
-    Total,
-    Lines,
-    FirstLine,
+    Satellite = 1,
+    Day = 2,
+    Timeline = 3,
+    Band = 4,
+    Area = 5,
+    Columns = 6,
+    Total = 7,
+    Lines = 8,
+    FirstLine = 9,
 }
 
 // A part in which a slate and a file differ, and what each of them says of it.
-#[derive(Clone, Copy)]
+#[derive(Clone, Copy, Debug, PartialEq, Eq)]
 pub struct Difference {
     pub part: Part,
     pub slate: u64,
     pub file: u64,
-}
-
-// Every part is the same, or this one is the first that is not.
-#[derive(Clone, Copy)]
-pub enum Compared {
-    Agrees,
-    Differs(Difference),
-}
-
-// Why a file is not a segment of a slate's frame, if it is not.
-#[derive(Clone, Copy)]
-pub enum Reason {
-    Compared(Compared),
-    Refused(Refusal),
 }
 
 impl Slate {
@@ -89,6 +77,7 @@ impl Slate {
     pub const MOST_LINES: u32 = 22000;
 
     // The slate of these parts, or refusal 13. What stands beyond the Nth height is ignored.
+    #[tactic(auto, unfolding(rules::specs::Rules::after))]
     pub fn new(
         satellite: u8,
         day: u32,
@@ -112,20 +101,20 @@ impl Slate {
             total,
             heights,
         };
-        let v = slate.check(Verdict::Fine);
-        match v {
-            Verdict::Refused(t) => Slated {
-                verdict: Verdict::Refused(t),
-                slate: Self::blank(),
-            },
-            Verdict::Fine => Slated {
-                verdict: Verdict::Fine,
+        match slate.check() {
+            Ok(()) => Slated {
+                verdict: Ok(()),
                 slate,
+            },
+            Err(t) => Slated {
+                verdict: Err(t),
+                slate: Self::blank(),
             },
         }
     }
 
     // No slate: every part is 0.
+    #[tactic(auto, unfolding(crate::specs::Slates::blank))]
     fn blank() -> Slate
         ensures { result ≡ blank }
     {
@@ -142,12 +131,14 @@ impl Slate {
     }
 
     // Every function that takes a slate makes this check again.
-    pub fn check(self, v: Verdict) -> Verdict
-        ensures { paper result ≡ judge (paper v) (slated self) }
+    #[tactic(auto, unfolding(crate::specs::Slates::slated))]
+    pub fn check(self) -> Result<(), Refusal>
+        ensures { paper result ≡ judge fine (slated self) }
     {
-        rules::check(v, self.is_good(), Why::Slate, 0, 0)
+        require(self.is_good(), Why::Slate, 0, 0)
     }
 
+    #[tactic(auto, unfolding(crate::specs::Slates::good_slate))]
     pub fn is_good(self) -> bool
         ensures { result ≡ good_slate self }
     {
@@ -155,12 +146,13 @@ impl Slate {
             & ((Self::FIRST_DAY <= self.day) & (self.day <= Self::LAST_DAY))
             & calendar::good_timeline(self.timeline)
             & ((1 <= self.band) & (self.band <= Self::LAST_BAND))
-            & format::good_area(letters(self.area))
+            & format::good_area(self.area.to_bytes(1))
             & ((1 <= self.columns) & (self.columns <= Self::MOST_COLUMNS))
             & ((1 <= self.total) & (self.total <= Self::MOST_SEGMENTS))
             & self.good_cut()
     }
 
+    #[tactic(auto, unfolding(crate::specs::Cut::good_cut))]
     fn good_cut(self) -> bool
         ensures { result ≡ good_cut self }
     {
@@ -168,13 +160,12 @@ impl Slate {
     }
 
     // Each segment has a line.
+    #[tactic(auto, using(crate::proofs::Cuts::turns), unfolding(crate::specs::Cut::height_of))]
     fn all_tall(self) -> bool
         ensures { result ≡ all_tall self self.total }
     {
-        let mut k = 0;
-        while k < self.total {
-            k += 1;
-            if height_in(&self.heights, k) < 1 {
+        for k in 0..self.total {
+            if height_in(&self.heights, k + 1) < 1 {
                 return false;
             }
         }
@@ -182,6 +173,7 @@ impl Slate {
     }
 
     // The lines of segment k.
+    #[tactic(auto, unfolding(crate::specs::Cut::height_of))]
     pub fn height_of(self, k: u8) -> u16
         ensures { result ≡ height_of self k }
     {
@@ -189,14 +181,13 @@ impl Slate {
     }
 
     // The lines of segments 1 to n.
+    #[tactic(auto, using(crate::proofs::Cuts::turns), unfolding(crate::specs::Cut::height_of))]
     pub fn lines_to(self, n: u8) -> u32
         ensures { result ≡ lines_to self n }
     {
         let mut sum = 0;
-        let mut k = 0;
-        while k < n {
-            k += 1;
-            sum += height_in(&self.heights, k) as u32;
+        for k in 0..n {
+            sum += height_in(&self.heights, k + 1) as u32;
         }
         sum
     }
@@ -224,7 +215,7 @@ impl Slate {
     pub fn start_of(self, k: u8) -> usize
         ensures { result ≡ start_of self k }
     {
-        product(self.lines_to(prior(k)), self.columns)
+        product(self.lines_to(k.saturating_sub(1)), self.columns)
     }
 
     // The counts of the frame.
@@ -238,7 +229,7 @@ impl Slate {
     pub fn place_of(self, line: Line, column: Column) -> usize
         ensures { result ≡ place_of self line.0 column.0 }
     {
-        product(down(line.0) as u32, self.columns) + down(column.0) as usize
+        product(line.0.saturating_sub(1) as u32, self.columns) + column.0.saturating_sub(1) as usize
     }
 
     // Whether the slate is good and the line one of its frame's.
@@ -250,6 +241,7 @@ impl Slate {
     }
 
     // The number of the segment that covers a line; 0 where there is none.
+    #[tactic(auto, using(crate::proofs::Cuts::covering), unfolding(crate::specs::Cut::height_of))]
     pub fn cover_of(self, line: Line) -> u8
         ensures { result ≡ cover_or_0 self line.0 }
     {
@@ -257,90 +249,74 @@ impl Slate {
             return 0;
         }
         let n = line.0 as u32;
-        let mut k = 1;
         let mut sum = 0;
-        while k < self.total {
+        for k in 1..self.total {
             sum += height_in(&self.heights, k) as u32;
             if n <= sum {
                 return k;
             }
-            k += 1;
         }
-        k
+        self.total
     }
 
-    // What is wrong with the slate, or else with the file, or else the first part in which the two differ.
-    pub fn why(self, file: &[u8]) -> Reason
-        ensures { paper_reason result ≡ reason_of self file.now }
+    // What is wrong with the slate, or else with the file, or else the first part in which the two differ, if any does.
+    #[tactic(auto, using(rules::proofs::Judge::judging), unfolding(crate::specs::Slates::asking, crate::specs::Slates::reason_of))]
+    pub fn why(self, file: &[u8]) -> Result<Option<Difference>, Refusal>
+        ensures { paper_reply result ≡ reason_of self file.now }
     {
-        let v = self.check(Verdict::Fine);
-        let v = accept::check_file(v, file);
-        match v {
-            Verdict::Refused(t) => Reason::Refused(t),
-            Verdict::Fine => Reason::Compared(self.compare(accept::facts_of(file))),
-        }
+        self.check()?;
+        accept::check_file(file)?;
+        Ok(self.compare(accept::facts_of(file)).err())
     }
 
     // Whether an accepted file is a segment of this slate's frame.
     pub fn matches(self, f: Facts) -> bool
         ensures { result ≡ matching self f }
     {
-        let c = self.compare(f);
-        match c {
-            Compared::Agrees => true,
-            Compared::Differs(_) => false,
-        }
+        self.compare(f).is_ok()
     }
 
     // The first part in which they differ, of the one list that `why` and `matches` go by.
-    fn compare(self, f: Facts) -> Compared
-        ensures { result ≡ comparing self f }
+    #[tactic(auto, using(crate::proofs::Parts::comparisons))]
+    fn compare(self, f: Facts) -> Result<(), Difference>
+        ensures { result_err result ≡ comparing self f }
     {
-        let c = self.compare_shot(Compared::Agrees, f);
-        self.compare_cut(c, f)
+        self.compare_shot(f)?;
+        self.compare_cut(f)
     }
 
-    fn compare_shot(self, c: Compared, f: Facts) -> Compared
-        ensures { result ≡ compare_all c (shot_parts self f) }
+    #[tactic(auto, unfolding(crate::specs::Parts::shot_parts))]
+    fn compare_shot(self, f: Facts) -> Result<(), Difference>
+        ensures { result_err result ≡ compare_all None (shot_parts self f) }
     {
-        let c = further(
-            c,
-            Part::Satellite,
-            self.satellite as u64,
-            f.satellite as u64,
-        );
-        let c = further(c, Part::Day, self.day as u64, f.day as u64);
-        let c = further(c, Part::Timeline, self.timeline as u64, f.timeline as u64);
-        let c = further(c, Part::Band, self.band as u64, f.band as u64);
-        further(c, Part::Area, self.area as u64, f.area as u64)
+        same(Part::Satellite, self.satellite as u64, f.satellite as u64)?;
+        same(Part::Day, self.day as u64, f.day as u64)?;
+        same(Part::Timeline, self.timeline as u64, f.timeline as u64)?;
+        same(Part::Band, self.band as u64, f.band as u64)?;
+        same(Part::Area, self.area as u64, f.area as u64)
     }
 
-    fn compare_cut(self, c: Compared, f: Facts) -> Compared
-        ensures { result ≡ compare_all c (cut_parts self f) }
+    #[tactic(auto, unfolding(crate::specs::Parts::cut_parts))]
+    fn compare_cut(self, f: Facts) -> Result<(), Difference>
+        ensures { result_err result ≡ compare_all None (cut_parts self f) }
     {
-        let stated = f.first as u64;
         let height = self.height_of(f.number) as u64;
-        let first = self.lines_to(prior(f.number)) as u64 + 1;
-        let c = further(c, Part::Columns, self.columns as u64, f.columns as u64);
-        let c = further(c, Part::Total, self.total as u64, f.total as u64);
-        let c = further(c, Part::Lines, height, f.lines as u64);
-        further(c, Part::FirstLine, first, stated)
+        let first = self.lines_to(f.number.saturating_sub(1)) as u64 + 1;
+        same(Part::Columns, self.columns as u64, f.columns as u64)?;
+        same(Part::Total, self.total as u64, f.total as u64)?;
+        same(Part::Lines, height, f.lines as u64)?;
+        same(Part::FirstLine, first, f.first as u64)
     }
 }
 
-// One part more: the first that differs answers.
-fn further(c: Compared, part: Part, slate: u64, file: u64) -> Compared
-    ensures { result ≡ further c part slate file }
+// One part: the same on both sides, or how it differs. Parts one after the other take `?`, and the first that differs answers.
+fn same(part: Part, slate: u64, file: u64) -> Result<(), Difference>
+    ensures { result_err result ≡ further None part slate file }
 {
-    match c {
-        Compared::Differs(d) => Compared::Differs(d),
-        Compared::Agrees => {
-            if slate == file {
-                Compared::Agrees
-            } else {
-                Compared::Differs(Difference { part, slate, file })
-            }
-        }
+    if slate == file {
+        Ok(())
+    } else {
+        Err(Difference { part, slate, file })
     }
 }
 
@@ -350,59 +326,25 @@ fn product(a: u32, b: u16) -> usize
     a as usize * b as usize
 }
 
-// The number before one; none is before 0.
-fn prior(k: u8) -> u8
-    ensures { result ≡ k - 1 }
-{
-    down(k as u16) as u8
-}
-
-fn down(n: u16) -> u16
-    ensures { result ≡ n - 1 }
-{
-    if n < 1 { 0 } else { n - 1 }
-}
-
 // The lines of segment k. Lent, so that a loop over heights does not copy them at each turn.
+#[tactic(auto, unfolding(crate::specs::Cut::height_in))]
 fn height_in(heights: &[u16; 99], k: u8) -> u16
     ensures { result ≡ height_in heights.now k }
 {
-    if k < 1 {
-        return 0;
+    if (1..=99).contains(&k) {
+        heights[k as usize - 1]
+    } else {
+        0
     }
-    if k > 99 {
-        return 0;
-    }
-    let at = k as usize - 1;
-    heights[at]
-}
-
-// A height of one of the segments; what stands beyond them is none.
-fn within(inside: bool, height: u16) -> u16
-    ensures { result ≡ cond inside height 0 }
-{
-    if inside { height } else { 0 }
 }
 
 // The first `total` heights, and 0 in the room beyond them.
+#[tactic(auto, using(crate::proofs::Heights::kept_is))]
 fn kept(total: u8, heights: [u16; 99]) -> [u16; 99]
     ensures { result ≡ kept_of total heights }
 {
-    let mut room = [0u16; 99];
-    let mut k = 0u8;
-    while k < 99 {
-        let at = k as usize;
-        room[at] = within(k < total, heights[at]);
-        k += 1;
-    }
+    let mut room = [0; 99];
+    let n = total.min(99) as usize;
+    room[..n].copy_from_slice(&heights[..n]);
     room
-}
-
-// The four letters of an area.
-fn letters(area: u32) -> [u8; 4]
-    ensures { result ≡ digits 1 4 area }
-{
-    let mut text = [0u8; 4];
-    wire::put_u32(&mut text, 0, area, 1);
-    text
 }
