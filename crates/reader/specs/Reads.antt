@@ -1,7 +1,6 @@
 -- What is read of a file: its values, and the entries of blocks 8, 9 and 10 into lent slices.
 use Rattle.std.specs.Prelude.{ℕ, ◌≡◌, List, [], ◌∷◌, ◌++◌, length, drop, leb}
-use Rattle.rules.specs.Rules.{Row, row, tables, judge, Ruling, fine, paper, after}
-use Rattle.rules.specs.declared.Verdict.{Verdict}
+use Rattle.rules.specs.Rules.{Row, row, tables, judge, Ruling, fine, paper, after, Verdict}
 use Rattle.header.specs.Places.{a_of, b_of, c_of}
 use Rattle.header.specs.Values.{header_of}
 use Rattle.header.specs.Entries.{entries_of}
