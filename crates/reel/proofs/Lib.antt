@@ -1,5 +1,4 @@
 -- The laws.
-pub mod Paper
 pub mod Steps
 pub mod Ends
 pub mod Reels

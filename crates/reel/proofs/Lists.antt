@@ -13,7 +13,6 @@ use Rattle.wire.specs.Wire.{Bytes, span, digits, join}
 use Rattle.wire.proofs.Spans.{span_add}
 use Rattle.wire.proofs.Pieces.{digits_span}
 use Rattle.wire.proofs.Numbers.{length_digits}
-use Rattle.rules.specs.Rules.{tables}
 use Rattle.rules.proofs.Judge.{Holds, holds, exactly, each_of}
 use Rattle.accept.specs.Checks.{checks}
 use Rattle.reel.specs.Ends.{big, most, ending, count_of, trailer_at}
@@ -136,7 +135,7 @@ length_all [] = refl
 length_all (f ∷ fs) = ap suc (length_all fs)
 
 pub good_all : (fs : List File) → Good fs → Holds (filed fs)
-unfolding filed tables
+unfolding filed
 good_all [] g = tt
 good_all (f ∷ fs) g = rw (append-nil (filed fs)) at (each_of (checks f ∷ filed fs ∷ []) (holds ((exactly (checks f)).0 g.0) (holds (good_all fs g.1) tt)))
 

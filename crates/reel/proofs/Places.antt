@@ -1,17 +1,14 @@
 -- Parts by their numbers. Assumes nothing.
-use mathlib.Core.Path.{◌≡◌, sym, ap, ◌∙◌}
-use mathlib.Core.Bool.{true, false, ◌&&◌}
+use mathlib.Core.Path.{◌≡◌}
+use mathlib.Core.Bool.{true, false}
 use mathlib.Core.List.{List, []}
 use Prim.Native.Nat.{ℕ, zero, suc, ◌+◌, ◌*◌, ◌≤◌, ◌<◌}
 use native.Mathlib.Nat.{add-zero}
 use native.Mathlib.Omega.{arith}
 use borrow.Author.Tests.{eqb-true}
-use lib.Dec.{leb, eqb}
-use lib.ListN.{length, get_or}
-use Rattle.reel.specs.declared.Place.{Place}
-use Rattle.reel.specs.Ends.{count_of}
+use lib.Dec.{eqb}
+use lib.ListN.{get_or}
 use Rattle.reel.specs.Reels.{four, tiled, part, parts_from, entry_in, entry_at, lies, place_of}
-use Rattle.reel.proofs.Ends.{length_ending}
 use Rattle.reel.proofs.Reels.{both}
 use Rattle.reel.proofs.Lists.{tiled_le}
 
@@ -43,15 +40,3 @@ place_in s k e = rw e
 pub no_place : (s : List ℕ) (k : ℕ) → lies s k ≡ false → place_of s k ≡ record { offset = 0; length = 0 }
 unfolding place_of
 no_place s k e = rw e
-
--- the tests of an entry, one by one
-module _ (s : List ℕ) (k : ℕ) {p : Place} {e n : ℕ} (a : p ≡ entry_in s e) (b : e ≡ entry_at s k) (c : n ≡ count_of s) where
-  tested : (leb 1 k && leb k n && leb (e + 8 + 9) (length s) && leb (p.offset + p.length) (length s)) ≡ lies s k
-  unfolding lies
-  tested = rw (a, b, c, length_ending)
-
-  pub place_there : (leb 1 k && leb k n && leb (e + 8 + 9) (length s) && leb (p.offset + p.length) (length s)) ≡ true → p ≡ place_of s k
-  place_there t = a ∙ ap (entry_in s) b ∙ sym (place_in s k (sym tested ∙ t))
-
-  pub place_none : (leb 1 k && leb k n && leb (e + 8 + 9) (length s) && leb (p.offset + p.length) (length s)) ≡ false → record { offset = 0; length = 0 } ≡ place_of s k
-  place_none t = sym (no_place s k (sym tested ∙ t))

@@ -9,7 +9,6 @@ use lib.Dec.{ltb, eqb}
 use lib.ListN.{length, take, drop, take-append-drop}
 use lib.Seq.{drop-drop}
 use Rattle.wire.specs.Wire.{join}
-use Rattle.rules.specs.Rules.{tables}
 use Rattle.rules.proofs.Judge.{Holds, exactly, each_is}
 use Rattle.accept.specs.Checks.{checks}
 use Rattle.reel.specs.Ends.{big, ending, count_of, trailer_at, good_end}
@@ -38,7 +37,7 @@ sound_is s e =
 -- ---- files that are all accepted
 
 pub all_good : (fs : List File) → Holds (filed fs) → Good fs
-unfolding filed tables
+unfolding filed
 all_good [] h = tt
 all_good (f ∷ fs) h =
     let k = each_is (checks f ∷ filed fs ∷ []) (rw (append-nil (filed fs)) h) in

@@ -2,24 +2,20 @@
 -- Assumes nothing.
 use mathlib.Core.Path.{◌≡◌, refl, sym, ap, ◌∙◌}
 use mathlib.Core.Bool.{Bool, true, false, ◌&&◌}
-use mathlib.Core.List.{List, [], ◌∷◌, ◌++◌, append_assoc, append-nil, map}
-use Prim.Native.Nat.{ℕ, suc, ◌+◌, ◌-◌, ◌*◌, ◌≤◌, ◌<◌}
+use mathlib.Core.List.{List, [], ◌∷◌, ◌++◌, map}
+use Prim.Native.Nat.{ℕ, suc, ◌+◌, ◌*◌, ◌≤◌, ◌<◌}
 use native.Mathlib.Nat.{zero-add}
 use native.Mathlib.Numerals.{add-one}
 use native.Mathlib.Omega.{arith}
 use borrow.Author.Tests.{eq-eqb, ne_eqb, eqb-true, leb-true, ltb-true, le-leb, lt-leb, lt-ltb}
 use lib.Dec.{leb, ltb, eqb}
 use lib.ListN.{length, get_or, take, drop, length-append, length-drop, take-append-drop, drop_of_length-le}
-use borrow.Rule.Slice.PartMut.{put_mid, Post-is}
-use lib.Seq.{sets-eq, drop-cons, drop-drop, length-take-le, drop-length}
+use lib.Seq.{drop-cons, drop-drop, length-take-le, drop-length}
 use Rattle.wire.specs.Wire.{lows, digits, join, store, Stored}
 use Rattle.wire.proofs.Numbers.{length_digits}
 use Rattle.wire.proofs.Stores.{store_append, front}
-use Rattle.rules.specs.Rules.{Turned, turned, paper, paper_of, Row, test, Ruling, fine, refused, checked, judge, tables, after}
-use Rattle.rules.specs.declared.Refusal.{Refusal}
-use Rattle.rules.specs.declared.Verdict.{Verdict}
-use Rattle.rules.specs.declared.Verdict.TheVariants.{Refused}
-use Rattle.rules.proofs.Judge.{judge_append, judge_refused, exactly, each_is, judged, also, none, tried, table, last}
+use Rattle.rules.specs.Rules.{Turned, turned, Row, test, fine, refused, checked, judge, tables, after}
+use Rattle.rules.proofs.Judge.{judge_append, judge_refused, exactly, each_is}
 use Rattle.accept.specs.Checks.{checks}
 use Rattle.reel.specs.Ends.{big, most, letters, ending}
 use Rattle.reel.specs.Reels.{entries, trailer_of, trailer_length, reel_of, filed, Good}
@@ -38,55 +34,37 @@ pub sum_end : (ls : List ℕ) (i : ℕ) → length ls ≤ i → sum_of (drop i l
 unfolding sum_of
 sum_end ls i h = rw (drop_of_length-le ls h)
 
-pub cut_next : (v : Ruling) (s : List ℕ) (at : ℕ) (ls : List ℕ) (i : ℕ) → i < length ls
-    → judge v (filed (cut_up s at (drop i ls))) ≡ judge (judge v (checks (take (get_or ls i 0) (drop at s)))) (filed (cut_up s (at + get_or ls i 0) (drop (i + 1) ls)))
-unfolding cut_up filed tables
-cut_next v s at ls i h = rw (add-one, drop-cons ls i 0 h, judge_append)
+pub ruleset summing = (sum_next, sum_end)
 
-pub cut_end : (v : Ruling) (s : List ℕ) (at : ℕ) (ls : List ℕ) (i : ℕ) → length ls ≤ i → judge v (filed (cut_up s at (drop i ls))) ≡ v
-unfolding cut_up filed tables
-cut_end v s at ls i h = rw (drop_of_length-le ls h)
+pub cut_stop : (s : List ℕ) (at : ℕ) (ls : List ℕ) (i : ℕ) {u : Turned} → i < length ls → judge fine (checks (take (get_or ls i 0) (drop at s))) ≡ refused u
+    → judge fine (filed (cut_up s at (drop i ls))) ≡ refused u
+unfolding cut_up filed
+cut_stop s at ls i h d = rw (drop-cons ls i 0 h, judge_append, d, judge_refused)
 
-pub entries_next : (ls : List ℕ) (i from : ℕ) {l m out : List ℕ} {e : ℕ} → i < length ls → Stored 4 l e (digits 0 4 from) m → Stored 4 m (e + 4) (digits 0 4 (get_or ls i 0)) out
-    → store l e (entries from (drop i ls)) ≡ store out (e + 8) (entries (from + get_or ls i 0) (drop (i + 1) ls))
+pub cut_next : (s : List ℕ) (at : ℕ) (ls : List ℕ) (i : ℕ) → i < length ls → judge fine (checks (take (get_or ls i 0) (drop at s))) ≡ fine
+    → judge fine (filed (cut_up s (at + get_or ls i 0) (drop (i + 1) ls))) ≡ judge fine (filed (cut_up s at (drop i ls)))
+unfolding cut_up filed
+cut_next s at ls i h d = rw (add-one, drop-cons ls i 0 h, judge_append, d)
+
+pub cut_end : (s : List ℕ) (at : ℕ) (ls : List ℕ) (i : ℕ) → length ls ≤ i → judge fine (filed (cut_up s at (drop i ls))) ≡ fine
+unfolding cut_up filed
+cut_end s at ls i h = rw (drop_of_length-le ls h)
+
+pub ruleset cutting = (cut_stop, cut_next, cut_end)
+
+pub entries_next : (ls : List ℕ) (at i from : ℕ) {l m out : List ℕ} → i < length ls → Stored 4 l (at + 8 * i) (digits 0 4 from) m → Stored 4 m (at + 8 * i + 4) (digits 0 4 (get_or ls i 0)) out
+    → store out (at + 8 * (i + 1)) (entries (from + get_or ls i 0) (drop (i + 1) ls)) ≡ store l (at + 8 * i) (entries from (drop i ls))
 unfolding entries
-entries_next ls i from {l} {m} {out} {e} h a b =
-    let q : e + 4 + 4 ≡ e + 8 = omega arith in
-    rw (b.is, a.is, add-one, drop-cons ls i 0 h, store_append l e 4 (digits 0 4 from) _ a.long, store_append (store l e (digits 0 4 from)) (e + 4) 4 (digits 0 4 (get_or ls i 0)) _ b.long, q)
+entries_next ls at i from {l} {m} {out} h a b =
+    let e = at + 8 * i in
+    let q : at + 8 * (i + 1) ≡ e + 4 + 4 = omega arith in
+    rw (q, b.is, a.is, add-one, drop-cons ls i 0 h, store_append l e 4 (digits 0 4 from) _ a.long, store_append (store l e (digits 0 4 from)) (e + 4) 4 (digits 0 4 (get_or ls i 0)) _ b.long)
 
 pub entries_end : (ls : List ℕ) (i : ℕ) (l : List ℕ) (e from : ℕ) → length ls ≤ i → store l e (entries from (drop i ls)) ≡ l
 unfolding entries store
 entries_end ls i l e from h = rw (drop_of_length-le ls h)
 
--- a block of w bytes by way of memory of its own, l; and what is lent of the output for it, which comes back
-whole_stored : (w : ℕ) (l p : List ℕ) {b : List ℕ} → length l ≡ w → length p ≡ w → b ≡ store l 0 p → b ≡ p
-whole_stored w l p m n e =
-    let f : Stored w l 0 p _ = record { long = n; is = e } in
-    let z : drop w l ≡ [] = drop_of_length-le l {i = w} (omega arith) in
-    front f (omega arith) ∙ rw (z, append-nil)
-
-pub block_stored : (w at : ℕ) (files out l : List ℕ) {b m : List ℕ} → at + w ≤ length files → at + w ≤ length out → length l ≡ w
-    → b ≡ store l 0 (take (at + w - at) (drop at files)) → m ≡ store (take (at + w - at) (drop at out)) 0 b → put_mid at (at + w - at) out m ≡ store out at (take w (drop at files))
-unfolding store
-block_stored w at files out l h k n e q =
-    let d : at + w - at ≡ w = omega arith in
-    let p : length (take w (drop at files)) ≡ w = length-take-le w (drop at files) (rw length-drop (omega arith)) in
-    let o : length (take w (drop at out)) ≡ w = length-take-le w (drop at out) (rw length-drop (omega arith)) in
-    let b = whole_stored w l (take w (drop at files)) n p (rw d at e) in
-    let m = whole_stored w (take w (drop at out)) (take w (drop at files)) o p (rw (d, b) at q) in
-    let r : drop (at + w) out ≡ drop (at + length (take w (drop at files))) out = rw p in
-    ap (put_mid at (at + w - at) out) m
-    ∙ ap (λ (z : List ℕ). take at out ++ (take w (drop at files) ++ z)) (Post-is at (at + w) out (omega arith) ∙ r)
-    ∙ sym (append_assoc (take at out) (take w (drop at files)) _)
-    ∙ sym (sets-eq (take w (drop at files)) out at (rw p k))
-
--- a block of w bytes, and then what is left
-pub files_next : (w : ℕ) (files out : List ℕ) (at : ℕ) {m : List ℕ} → at + w ≤ length files → m ≡ store out at (take w (drop at files))
-    → store out at (drop at files) ≡ store m (at + w) (drop (at + w) files)
-files_next w files out at h q =
-    let n : length (take w (drop at files)) ≡ w = length-take-le w (drop at files) (rw length-drop (omega arith)) in
-    let d : drop at files ≡ take w (drop at files) ++ drop (at + w) files = sym (take-append-drop w (drop at files)) ∙ rw drop-drop in
-    rw q (ap (store out at) d ∙ store_append out at w (take w (drop at files)) (drop (at + w) files) n)
+pub ruleset storing = (summing, entries_next, entries_end)
 
 -- ---- the files that lengths cut out
 
@@ -233,22 +211,21 @@ bounds s ls e =
 
 -- ---- the verdict
 
-made : (b : Bool) → b ≡ true → fine ≡ checked fine b (turned 18 0 0)
-unfolding checked
-made b e = rw e
-
 pub first_row : (b : Bool) (u : Turned) (ts : List (List Row)) → b ≡ false → judge fine (tables ((test b u ∷ []) ∷ ts)) ≡ refused u
-unfolding tables checked
 first_row b u ts e = rw e (judge_refused u (tables ts))
 
 pub writing_bad : (s ls : List ℕ) (need room : ℕ) → good_list s ls ≡ false → judge fine (writing s ls need room) ≡ refused (turned 18 0 0)
 unfolding writing
-writing_bad s ls need room e = first_row (good_list s ls) (turned 18 0 0) _ e
+writing_bad s ls need room e = first_row (good_list s ls) (turned 18 0 0) (filed (listed s ls) ∷ (test (leb need room) (turned 17 0 0) ∷ []) ∷ []) e
 
-pub writing_good : (s ls : List ℕ) (need room : ℕ) {v r : Ruling} {ok : Bool} → good_list s ls ≡ true → v ≡ judge fine (filed (listed s ls)) → r ≡ checked v ok (turned 17 0 0) → ok ≡ leb need room
-    → r ≡ judge fine (writing s ls need room)
-unfolding writing
-writing_good s ls need room g a b c = tried (table (judged (also (made (good_list s ls) g) refl none)) (table a (table (judged (also b c none)) last)))
+-- what a check that holds says
+pub passed : (ok : Bool) (u : Turned) → fine ≡ checked fine ok u → ok ≡ true
+passed true u e = refl
+passed false u e = absurd (let z : ◌≡◌ {A = ℕ} 0 1 = cc in omega arith)
+
+pub ruleset listing = (length_short, trailed, good_none, good_sum, good_size)
+
+pub ruleset checking = (judge_append, judge_refused, passed, bounds)
 
 record Fine (s ls : List ℕ) (need room : ℕ) : Type 0 where
   pub list : Listed s ls
@@ -258,7 +235,7 @@ record Fine (s ls : List ℕ) (need room : ℕ) : Type 0 where
 fine_is : (s ls : List ℕ) (need room : ℕ) → judge fine (writing s ls need room) ≡ fine → Fine s ls need room
 unfolding writing
 fine_is s ls need room e =
-    let k = each_is _ ((exactly (writing s ls need room)).0 e) in
+    let k = each_is ((test (good_list s ls) (turned 18 0 0) ∷ []) ∷ filed (listed s ls) ∷ (test (leb need room) (turned 17 0 0) ∷ []) ∷ []) ((exactly (writing s ls need room)).0 e) in
     record { list = listed_is s ls k.0.0; files = all_good (listed s ls) k.1.0; fits = leb-true need room k.1.1.0.0 }
 
 -- the room that the code asks for: that of a list that is bad anyway does not matter
@@ -285,12 +262,6 @@ pub written_not : (s ls bs out : List ℕ) (t : Turned) → wrote s ls bs out �
 unfolding written after
 written_not s ls bs out t e = rw e
 
-pub written_refused : (s ls bs out : List ℕ) {r : Verdict} {t : Refusal} → paper r ≡ wrote s ls bs out → r ≡ Refused t → (paper (Refused t) ≡ wrote s ls bs out) × (out ≡ written s ls bs out)
-unfolding paper
-written_refused s ls bs out {r} {t} p f =
-    let g : paper (Refused t) ≡ wrote s ls bs out = ap paper (sym f) ∙ p in
-    (g, written_not s ls bs out (paper_of t) (sym g))
-
 pub written_fine : (s ls bs out : List ℕ) {m : List ℕ} → wrote s ls bs out ≡ fine → m ≡ store out 0 bs → m ≡ written s ls bs out
 unfolding written after
 written_fine s ls bs out e q =
@@ -300,3 +271,7 @@ written_fine s ls bs out e q =
 pub written_is : (s ls bs out : List ℕ) → wrote s ls bs out ≡ fine → written s ls bs out ≡ bs ++ drop (length bs) out
 unfolding written after
 written_is s ls bs out e = rw e
+
+pub ruleset trailing = (bounds, trailer_stored)
+
+pub ruleset outcomes = (reel_need, trailer_need, bounds, fine_good, reel_stored, written_not, written_fine)

@@ -1,12 +1,10 @@
 -- A reel: one or more whole files end to end, and then a trailer that points back, all little-endian.
 use Rattle.std.specs.Prelude.{ℕ, zero, suc, ◌+◌, ◌*◌, ◌-◌, Bool, ◌&&◌, cond, ◌≡◌, List, [], ◌∷◌, ◌++◌, map, length, take, drop, leb, ltb, eqb}
 use Rattle.wire.specs.Wire.{span, num, digits, join}
-use Rattle.rules.specs.Rules.{paper_of, fine, Row, row, tables, judge, Reply, says, refuses, reply}
+use Rattle.rules.specs.Rules.{fine, Row, row, tables, judge, Reply, reply}
 use Rattle.accept.specs.Checks.{checks}
 use Rattle.reel.specs.Ends.{big, most, ending, count_of, trailer_at, good_end}
 use Rattle.reel.specs.declared.Place.{Place}
-use Rattle.reel.specs.declared.Opened.{Opened}
-use Rattle.reel.specs.declared.Opened.TheVariants.{Files, Refused}
 
 abbrev pub File : Type 0
 File = List ℕ
@@ -70,10 +68,6 @@ Good (f ∷ fs) = (judge fine (checks f) ≡ fine) × Good fs
 -- 18 REEL, and then the parts: a part that fails answers with that file's own refusal
 unfoldable pub opening : List ℕ → List Row
 opening s = tables ((row (sound s) 18 0 0 ∷ []) ∷ filed (parts_of s) ∷ [])
-
-unfoldable pub paper_opened : Opened → Reply ℕ
-paper_opened (Files n) = says n
-paper_opened (Refused t) = refuses (paper_of t)
 
 -- how many files, or the refusal
 unfoldable pub opened : List ℕ → Reply ℕ
