@@ -53,3 +53,12 @@ pub line_some : (s : Slate) (marks : List Bool) (frame leader : List ℕ) (line 
 line_some s marks frame leader line e =
     let g = ((and-eq-true_iff (line_good s marks (length frame) line) _).0 e).0 in
     rw (line_length s marks frame leader line, e) (asked s marks (length frame) line g).within.slate.columns
+
+-- what `line_of` asks for: the segment that covers the line, and a part that lies within the frame
+pub good_cover : (s : Slate) (marks : List Bool) (size line : ℕ) → line_good s marks size line ≡ true → cover_or_0 s line ≡ cover_of s line
+good_cover s marks size line e = (asked s marks size line e).cover
+
+pub good_room : (s : Slate) (marks : List Bool) (size line : ℕ) → line_good s marks size line ≡ true → place_of s line 1 + s.columns ≤ size
+good_room s marks size line e = (asked s marks size line e).room
+
+pub ruleset asking = (good_cover, good_room)

@@ -1,13 +1,16 @@
 -- Laws of the loops over a record's marks.
 -- Assumes nothing.
-use mathlib.Core.Path.{◌≡◌, refl, sym, ◌∙◌}
-use mathlib.Core.Bool.{Bool, true, false}
+use mathlib.Core.Path.{◌≡◌, refl, sym, ap}
+use mathlib.Core.Bool.{Bool, true, false, not}
 use mathlib.Core.List.{List}
 use Prim.Native.Nat.{ℕ, zero, suc, ◌+◌, ◌-◌, ◌<◌, ◌≤◌}
-use native.Mathlib.Nat.{zero-add, add-zero, add_assoc}
 use native.Mathlib.Omega.{arith}
-use lib.ListN.{get_or}
-use Rattle.frame.specs.Records.{pass, one_of, tallied, tally_of}
+use lib.ListN.{get_or, length, drop, drop_of_length-le}
+use lib.Seq.{drop-cons}
+use native.Mathlib.Numerals.{add-one}
+use Rattle.std.specs.Prelude.{count_by}
+use Rattle.std.proofs.lemmas.List.Sums.{sum_by-cons}
+use Rattle.frame.specs.Records.{pass, none_above, one_of, tallied, tally_of}
 
 -- ---- a test of the 99 elements, from place k on
 
@@ -26,25 +29,31 @@ pub pass_all : {A : Type 0} (test : A → Bool) (d : A) (l : List A) (k n : ℕ)
 pass_all test d l k zero h = refl
 pass_all test d l k (suc n) h = rw (h k (omega arith) (omega arith)) (pass_all test d l (k + 1) n (λ i a b. h i (omega arith) (omega arith)))
 
--- ---- what was counted so far, and what is still to be counted from place k on
+-- no number above the total: a turn of the loop, from number k + 1 on
+pub none_hit : (marks : List Bool) (k : ℕ) → k < 99 → get_or marks k false ≡ true → none_above k marks ≡ false
+unfolding none_above
+none_hit marks k h e = pass_hit not false marks k h (ap not e)
 
-unfoldable pub rest_of : List Bool → ℕ → ℕ
-rest_of marks k = tallied marks k (99 - k)
+pub none_miss : (marks : List Bool) (k : ℕ) → k < 99 → get_or marks k false ≡ false → none_above k marks ≡ none_above (k + 1) marks
+unfolding none_above
+none_miss marks k h e = pass_miss not false marks k h (ap not e)
 
-abbrev pub Counted : List Bool → ℕ → ℕ → Type 0
-Counted marks n k = n + rest_of marks k ≡ tally_of marks
+pub none_end : (marks : List Bool) (k : ℕ) → 99 ≤ k → none_above k marks ≡ true
+unfolding none_above
+none_end marks k h = pass_end not false marks k h
 
-pub counted_none : (marks : List Bool) → Counted marks 0 0
-unfolding rest_of tally_of
-counted_none marks = zero-add (tallied marks 0 99)
+pub ruleset none_turns = (none_hit, none_miss, none_end)
 
-pub counted_next : (marks : List Bool) (n k one : ℕ) → k < 99 → Counted marks n k → one ≡ one_of (get_or marks k false) → Counted marks (n + one) (k + 1)
-unfolding rest_of
-counted_next marks n k one h i e =
-    let s : 99 - k ≡ suc (99 - (k + 1)) = omega arith in
-    let m : n + (one_of (get_or marks k false) + tallied marks (k + 1) (99 - (k + 1))) ≡ tally_of marks = (rw s at i) in
-    rw e (add_assoc n (one_of (get_or marks k false)) (tallied marks (k + 1) (99 - (k + 1))) ∙ m)
+-- ---- the tally is the library's count
 
-pub counted_all : (marks : List Bool) (n k : ℕ) → 99 ≤ k → Counted marks n k → n ≡ tally_of marks
-unfolding rest_of
-counted_all marks n k h i = let s : 99 - k ≡ 0 = omega arith in sym (add-zero n) ∙ (rw s at i)
+tallied_rest : (marks : List Bool) (k n : ℕ) → k + n ≡ length marks → tallied marks k n ≡ count_by (λ m. m) (drop k marks)
+tallied_rest marks k zero h = let e : length marks ≤ k = omega arith in rw (drop_of_length-le marks e)
+tallied_rest marks k (suc n) h =
+    let l : k < length marks = omega arith in
+    rw (drop-cons marks k false, ← add-one k, tallied_rest marks (k + 1) n (omega arith)) (sym (sum_by-cons one_of (get_or marks k false) (drop (k + 1) marks)))
+
+pub tally_is : (marks : List Bool) → length marks ≡ 99 → tally_of marks ≡ count_by (λ m. m) marks
+unfolding tally_of
+tally_is marks h = tallied_rest marks 0 99 (sym h)
+
+pub ruleset tallies = (tally_is)

@@ -1,16 +1,17 @@
 #![tactic(auto)]
 // A frame put together from segments: opening, offering files, and asking for lines. The record alone says what has come.
-ghost use Rattle.std.specs.Prelude.{◌≡◌, ◌+◌, ◌*◌, ◌-◌, ◌/◌, ◌%◌, ◌≤◌, ◌<◌, [], ◌∷◌, length, drop, replicate};
+ghost use Rattle.std.specs.Prelude.{◌≡◌, ◌+◌, ◌*◌, ◌≤◌, [], ◌∷◌, length, drop};
 ghost use Rattle.wire.specs.Wire.{num};
 ghost use Rattle.header.specs.Places.{length_of};
 ghost use Rattle.rules.specs.Rules.{paper, fine, judge};
 ghost use Rattle.frame.specs.Counts.{counts, filled};
-ghost use Rattle.frame.specs.Records.{no_marks, marked, mark, none_above, one_of, tally_of};
-ghost use Rattle.frame.specs.Frames.{opened, unwritten, open_frame, ready, placing, offered, put_at, record_after, frame_after};
+ghost use Rattle.frame.specs.Records.{no_marks, marked, mark, none_above, tally_of};
+ghost use Rattle.frame.specs.Frames.{opened, open_frame, ready, placing, offered, put_at, record_after, frame_after};
 ghost use Rattle.frame.specs.Lines.{line_good, line_of};
 
-use rules::{Verdict, Why};
+use rules::{Refusal, Why, require};
 use slate::{Column, Line, Slate};
+use wire::Word;
 
 // The numbers 1 to 99 that are in; number k stands at k - 1.
 #[derive(Clone, Copy)]
@@ -18,10 +19,11 @@ pub struct Record {
     pub marks: [bool; 99],
 }
 
-// A verdict, and the record that is now the newest.
+// A verdict, and the record that is now the newest. Two fields and not one Result, since `marks_value` of `open` and `offer` says
+// which record a refusal hands back.
 #[derive(Clone, Copy)]
 pub struct Held {
-    pub verdict: Verdict,
+    pub verdict: Result<(), Refusal>,
     pub rec: Record,
 }
 
@@ -34,51 +36,32 @@ pub fn empty() -> Record
     Record { marks: [false; 99] }
 }
 
+#[tactic(auto, unfolding(crate::specs::Records::marked))]
 pub fn is_marked(rec: Record, number: u8) -> bool
     ensures { result ≡ marked rec.marks number }
 {
-    if number < 1 {
-        return false;
-    }
-    if number > 99 {
-        return false;
-    }
-    let at = number as usize - 1;
-    rec.marks[at]
+    (1..=99).contains(&number) && rec.marks[number as usize - 1]
 }
 
 // No number above the total is marked.
+#[tactic(auto, using(crate::proofs::Marking::none_turns))]
 fn none_above(rec: Record, total: u8) -> bool
     ensures { result ≡ none_above total rec.marks }
 {
-    let mut k = total as usize;
-    while k < 99 {
-        if rec.marks[k] {
+    for k in total..99 {
+        if rec.marks[k as usize] {
             return false;
         }
-        k += 1;
     }
     true
 }
 
-// A mark as a number.
-pub fn one(marked: bool) -> u8
-    ensures { (result ≡ one_of marked) × (result ≤ 1) }
-{
-    if marked { 1 } else { 0 }
-}
-
 // How many numbers are marked.
+#[tactic(auto, using(crate::proofs::Marking::tallies))]
 pub fn tally(rec: Record) -> u8
     ensures { result ≡ tally_of rec.marks }
 {
-    let mut n = 0;
-    let mut k = 0;
-    while k < 99 {
-        n += one(rec.marks[k]);
-        k += 1;
-    }
-    n
+    rec.marks.iter().filter(|marked| **marked).count() as u8
 }
 
 fn mark_in(rec: Record, number: u8) -> Record
@@ -93,28 +76,11 @@ fn mark_in(rec: Record, number: u8) -> Record
 
 // ---- counts
 
-// The number that two bytes hold, the lower first.
-fn word(a: u8, b: u8) -> u16
-    ensures { result ≡ a + b * 256 }
-{
-    a as u16 + b as u16 * 256
-}
-
-fn swapped(x: u16) -> u16
-    ensures { result ≡ x % 256 * 256 + x / 256 }
-{
-    x % 256 * 256 + x / 256
-}
-
-// Swapping the little-endian word, and not adding up the other way round, is what the compiler turns into vector code.
+// The number that two bytes hold.
 pub fn count_of(order: u8, a: u8, b: u8) -> u16
     ensures { result ≡ num order (a ∷ b ∷ []) }
 {
-    if order == 0 {
-        word(a, b)
-    } else {
-        swapped(word(a, b))
-    }
+    u16::from_bytes([a, b], order)
 }
 
 // What follows a file's header.
@@ -128,18 +94,18 @@ pub fn counts_in(file: &[u8]) -> &[u8]
 }
 
 // Writes the counts that `src` holds into all of `dst`.
+#[tactic(auto, using(crate::proofs::Copying::counts_from_each))]
 fn place(dst: &mut [u16], src: &[u8], order: u8)
     requires { length src.now ≡ length dst.old * 2 }
     ensures { dst.new ≡ counts order src.now }
 {
-    let mut i = 0;
-    while i < dst.len() {
-        dst[i] = count_of(order, src[i * 2], src[i * 2 + 1]);
-        i += 1;
+    for (i, count) in dst.iter_mut().enumerate() {
+        *count = count_of(order, src[i * 2], src[i * 2 + 1]);
     }
 }
 
 // The same for what lies above: where the counts don't fill `dst`, it stays as it was.
+#[tactic(auto, using(crate::proofs::Copying::filling))]
 pub fn counts_into(dst: &mut [u16], src: &[u8], order: u8)
     ensures { dst.new ≡ filled order src.now dst.old }
 {
@@ -154,105 +120,89 @@ fn put(frame: &mut [u16], at: usize, n: usize, src: &[u8], order: u8)
     requires src_len { length src.now ≡ n * 2 }
     ensures { frame.new ≡ put_at frame.old at (counts order src.now) }
 {
-    let end = at + n;
-    place(&mut frame[at..end], src, order);
+    place(&mut frame[at..at + n], src, order);
 }
 
 // ---- opening
 
-fn fill_all(frame: &mut [u16])
-    ensures { frame.new ≡ replicate (length frame.old) unwritten }
-{
-    let mut i = 0;
-    while i < frame.len() {
-        frame[i] = 65534;
-        i += 1;
-    }
-}
-
-fn check_open(slate: Slate, size: usize) -> Verdict
+#[tactic(auto, unfolding(crate::specs::Frames::opening, slate::specs::Slates::slated))]
+fn check_open(slate: Slate, size: usize) -> Result<(), Refusal>
     ensures { paper result ≡ opened slate size }
 {
-    let v = slate.check(Verdict::Fine);
-    rules::check(v, size == slate.frame_size(), Why::Strip, 0, 0)
+    slate.check()?;
+    require(size == slate.frame_size(), Why::Strip, 0, 0)
 }
 
 // Checks slate and frame, fills the frame with 65,534, and gives a record with no segment in.
+#[tactic(auto, unfolding(crate::specs::Frames::open_frame, rules::specs::Rules::after))]
 pub fn open(slate: Slate, frame: &mut [u16]) -> Held
     ensures verdict_value { paper result.verdict ≡ opened slate (length frame.old) }
     ensures marks_value { result.rec.marks ≡ no_marks }
     ensures frame_after { frame.new ≡ open_frame slate frame.old }
 {
-    let rec = empty();
-    let v = check_open(slate, frame.len());
-    match v {
-        Verdict::Refused(t) => Held {
-            verdict: Verdict::Refused(t),
-            rec,
-        },
-        Verdict::Fine => {
-            fill_all(frame);
-            Held {
-                verdict: Verdict::Fine,
-                rec,
-            }
-        }
+    let verdict = check_open(slate, frame.len());
+    if verdict.is_ok() {
+        frame.fill(65534);
+    }
+    Held {
+        verdict,
+        rec: empty(),
     }
 }
 
 // ---- offering
 
-fn check_ready(slate: Slate, rec: Record, size: usize) -> Verdict
+#[tactic(auto, unfolding(crate::specs::Frames::ready, slate::specs::Slates::slated))]
+fn check_ready(slate: Slate, rec: Record, size: usize) -> Result<(), Refusal>
     ensures { paper result ≡ judge fine (ready slate rec.marks size) }
 {
-    let v = slate.check(Verdict::Fine);
-    let v = rules::check(v, none_above(rec, slate.total()), Why::Slate, 0, 0);
-    rules::check(v, size == slate.frame_size(), Why::Strip, 0, 0)
+    slate.check()?;
+    require(none_above(rec, slate.total()), Why::Slate, 0, 0)?;
+    require(size == slate.frame_size(), Why::Strip, 0, 0)
 }
 
-fn check_placing(v: Verdict, slate: Slate, rec: Record, file: &[u8]) -> Verdict
-    ensures { paper result ≡ judge (paper v) (placing slate rec.marks file.now) }
+#[tactic(auto, unfolding(crate::specs::Frames::placing))]
+fn check_placing(slate: Slate, rec: Record, file: &[u8]) -> Result<(), Refusal>
+    ensures { paper result ≡ judge fine (placing slate rec.marks file.now) }
 {
     let f = accept::facts_of(file);
-    let v = rules::check(v, slate.matches(f), Why::OtherShot, 0, 0);
-    rules::check(v, !is_marked(rec, f.number), Why::Already, 0, 0)
+    require(slate.matches(f), Why::OtherShot, 0, 0)?;
+    require(!is_marked(rec, f.number), Why::Already, 0, 0)
 }
 
-fn judge(slate: Slate, rec: Record, size: usize, file: &[u8]) -> Verdict
+#[tactic(auto, using(rules::proofs::Judge::judging), unfolding(crate::specs::Frames::offering))]
+fn judge(slate: Slate, rec: Record, size: usize, file: &[u8]) -> Result<(), Refusal>
     ensures { paper result ≡ offered slate rec.marks size file.now }
 {
-    let v = check_ready(slate, rec, size);
-    let v = accept::check_file(v, file);
-    check_placing(v, slate, rec, file)
+    check_ready(slate, rec, size)?;
+    accept::check_file(file)?;
+    check_placing(slate, rec, file)
 }
 
 // Judges a file, and places its counts if nothing is wrong: only its own lines are written, and its number is marked.
+#[tactic(auto, using(crate::proofs::Putting::placed), unfolding(crate::specs::Frames::record_after, crate::specs::Frames::frame_after, rules::specs::Rules::after))]
 pub fn offer(slate: Slate, rec: Record, frame: &mut [u16], file: &[u8]) -> Held
     ensures verdict_value { paper result.verdict ≡ offered slate rec.marks (length frame.old) file.now }
     ensures marks_value { result.rec.marks ≡ record_after slate rec.marks (length frame.old) file.now }
     ensures frame_after { frame.new ≡ frame_after slate rec.marks frame.old file.now }
 {
-    let v = judge(slate, rec, frame.len(), file);
-    match v {
-        Verdict::Refused(t) => Held {
-            verdict: Verdict::Refused(t),
-            rec,
-        },
-        Verdict::Fine => {
-            let f = accept::facts_of(file);
-            let at = slate.start_of(f.number);
-            let n = slate.size_of(f.number);
-            put(frame, at, n, counts_in(file), f.order);
-            Held {
-                verdict: Verdict::Fine,
-                rec: mark_in(rec, f.number),
-            }
-        }
+    let verdict = judge(slate, rec, frame.len(), file);
+    if verdict.is_err() {
+        return Held { verdict, rec };
+    }
+    let f = accept::facts_of(file);
+    let at = slate.start_of(f.number);
+    let n = slate.size_of(f.number);
+    put(frame, at, n, counts_in(file), f.order);
+    Held {
+        verdict,
+        rec: mark_in(rec, f.number),
     }
 }
 
 // ---- a line
 
+#[tactic(auto, unfolding(crate::specs::Lines::line_good))]
 fn line_good(slate: Slate, rec: Record, size: usize, line: Line) -> bool
     ensures { result ≡ line_good slate rec.marks size line.0 }
 {
@@ -260,6 +210,7 @@ fn line_good(slate: Slate, rec: Record, size: usize, line: Line) -> bool
 }
 
 // That part of the frame if its segment is in, or else the first columns of the leader; empty if it is refused.
+#[tactic(auto, using(crate::proofs::Asking::asking), unfolding(crate::specs::Lines::line_of))]
 pub fn line_of<'a>(
     slate: Slate,
     rec: Record,
@@ -270,16 +221,12 @@ pub fn line_of<'a>(
     ensures { result.now ≡ line_of slate rec.marks frame.now leader.now line.0 }
 {
     if !line_good(slate, rec, frame.len(), line) {
-        return &frame[..0];
+        return &[];
     }
     let columns = slate.columns() as usize;
     if is_marked(rec, slate.cover_of(line)) {
         let at = slate.place_of(line, Column(1));
-        let end = at + columns;
-        return &frame[at..end];
+        return &frame[at..at + columns];
     }
-    if leader.len() < columns {
-        return &frame[..0];
-    }
-    &leader[..columns]
+    leader.get(..columns).unwrap_or(&[])
 }

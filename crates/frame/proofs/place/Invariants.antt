@@ -1,11 +1,6 @@
-use Prim.Native.Nat.{◌≤◌, ◌-◌}
-use mathlib.Core.Path.{◌≡◌}
-use lib.ListN.{length}
-use Rattle.frame.proofs.Copying.{copied}
+use Rattle.std.proofs.Common.{◌≡◌, ℕ, ◌<◌, ◌*◌, ◌+◌, [], ◌∷◌, get_or}
+use Rattle.wire.specs.Wire.{num}
 use Rattle.frame.proofs.place.Given as goal
 
 abbrev pub invariant-loop-i : goal.invariant-loop-i
-invariant-loop-i l = (l.dst ≡ copied l.order l.src l.initial.dst l.i) × (l.i ≤ length l.initial.dst) × (length l.dst ≡ length l.initial.dst)
-
-abbrev pub decreases-loop-i : goal.decreases-loop-i
-decreases-loop-i l = length l.initial.dst - l.i
+invariant-loop-i l = (k : ℕ) → k < l.i → get_or l.dst k 0 ≡ num l.order (get_or l.src (k * 2) 0 ∷ get_or l.src (k * 2 + 1) 0 ∷ [])
