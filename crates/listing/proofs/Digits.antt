@@ -1,36 +1,17 @@
--- How many digits a number has, and the digits stored from the last one on.
+-- How many digits a number has, and the last of them.
 -- Assumes nothing.
 use mathlib.Core.Path.{◌≡◌, refl}
 use mathlib.Core.Bool.{Bool, true, false, cond}
-use mathlib.Core.List.{List, [], ◌∷◌, ◌++◌}
+use mathlib.Core.List.{[], ◌∷◌}
 use Prim.Native.Nat.{ℕ, zero, suc, ◌+◌, ◌-◌, ◌*◌, ◌/◌, ◌%◌, ◌^◌, ◌≤◌, ◌<◌}
-use native.Mathlib.Nat.{add-zero, pow-suc}
+use native.Mathlib.Nat.{pow-suc}
 use native.Mathlib.Omega.{arith}
+use lib.ListN.{length, take, drop, length-append, drop_of_length-le}
 use lib.Dec.{ltb}
-use lib.ListN.{length, set, length-append}
-use lib.Seq.{sets, set_comm}
+use Rattle.std.proofs.lemmas.List.{drop-append-le, take_all}
 use borrow.Author.Tests.{lt-ltb, le-ltb}
-use Rattle.wire.specs.Wire.{store, Stored}
 use Rattle.format.specs.Texts.{decimal}
 use Rattle.listing.specs.Lines.{width}
-
--- any bound of the count does
-width_same : (k m n : ℕ) → n ≤ k → n ≤ m → width k n ≡ width m n
-unfolding width
-width_same zero zero n p q = refl
-width_same zero (suc m) n p q = rw (lt-ltb n 10 (omega arith))
-width_same (suc k) zero n p q = rw (lt-ltb n 10 (omega arith))
-width_same (suc k) (suc m) n p q = rw (width_same k m (n / 10) (omega arith) (omega arith))
-
-pub width_end : (n : ℕ) → n < 10 → width n n ≡ 1
-unfolding width
-width_end zero h = refl
-width_end (suc k) h = rw (lt-ltb (suc k) 10 h)
-
-pub width_turn : (n : ℕ) → 10 ≤ n → width n n ≡ suc (width (n / 10) (n / 10))
-unfolding width
-width_turn zero h = absurd (omega arith)
-width_turn (suc k) h = rw (le-ltb (suc k) 10 h, width_same k (suc k / 10) (suc k / 10) (omega arith) (omega arith))
 
 one_more : (b : Bool) {x m : ℕ} → x ≤ m → cond b 1 (suc x) ≤ suc m
 one_more true h = omega arith
@@ -44,22 +25,48 @@ width_most (suc k) (suc w) n h =
     let l : n < 10 ^ suc w * 10 = rw pow-suc at h in
     one_more (ltb n 10) (width_most k w (n / 10) (omega arith))
 
+tens_pos : (k : ℕ) → 0 < 10 ^ k
+tens_pos zero = omega arith
+tens_pos (suc k) = rw pow-suc (omega (arith, tens_pos k))
+
+-- a number from a power of ten on, and below the next, has a digit more than the power
+width_from : (m n k : ℕ) → n ≤ m → 10 ^ k ≤ n → n < 10 * 10 ^ k → width m n ≡ k + 1
+unfolding width
+width_from zero n zero b l h = refl
+width_from (suc m) n zero b l h = rw (lt-ltb n 10 h)
+width_from zero n (suc k) b l h =
+    let tens : 10 ^ k * 10 ≤ n = rw pow-suc at l in
+    let some : 0 < 10 ^ k = tens_pos k in
+    absurd (omega arith)
+width_from (suc m) n (suc k) b l h =
+    let tens : 10 ^ k * 10 ≤ n = rw pow-suc at l in
+    let more : n < 10 * (10 ^ k * 10) = rw pow-suc at h in
+    let some : 0 < 10 ^ k = tens_pos k in
+    rw (le-ltb n 10 (omega arith), width_from m (n / 10) k (omega arith) (omega arith) (omega arith)) (omega arith)
+
+pub width_is : (n k : ℕ) → 10 ^ k ≤ n → n < 10 * 10 ^ k → width n n ≡ k + 1
+width_is n k l h = width_from n n k (omega arith) l h
+
+pub width_zero : (n : ℕ) → n ≡ 0 → width n n ≡ 1
+unfolding width
+width_zero n e = rw e
+
+pub ruleset widths = (width_is, width_zero)
+
 pub length_decimal : (w n : ℕ) → length (decimal w n) ≡ w
 unfolding decimal
 length_decimal zero n = refl
 length_decimal (suc w) n = rw (length-append, length_decimal w (n / 10)) (omega arith)
 
--- a byte stored right behind where a run of bytes will stand is the last one of the run
-sets_last : (xs l : List ℕ) (i j d : ℕ) → j ≡ i + length xs → sets (set l j d) i xs ≡ sets l i (xs ++ (d ∷ []))
-sets_last [] l i j d e = rw (e, add-zero)
-sets_last (x ∷ xs) l i j d e =
-    rw (set_comm l j i d x (λ f. omega arith)) (sets_last xs (set l i x) (suc i) j d (omega arith))
+-- the last digits of more are those of the number
+last_digits : (k w m n : ℕ) → k + w ≡ m → drop k (decimal m n) ≡ decimal w n
+unfolding decimal
+last_digits k zero m n e = drop_of_length-le (decimal m n) {i = k} (omega (arith, length_decimal m n))
+last_digits k (suc w) zero n e = absurd (omega arith)
+last_digits k (suc w) (suc m) n e =
+    rw (drop-append-le k (decimal m (n / 10)) ((48 + n % 10) ∷ []) (omega (arith, length_decimal m (n / 10))), last_digits k w m (n / 10) (omega arith))
 
--- a turn of a loop that stores the last digit, and then those before it
-pub digit_turn : {l m : List ℕ} {g : ℕ} (at i n : ℕ) → 0 < i → g ≡ 48 + n % 10 → Stored 1 l (at + (i - 1)) (g ∷ []) m
-    → store m at (decimal (i - 1) (n / 10)) ≡ store l at (decimal i n)
-unfolding store decimal
-digit_turn at zero n h e s = absurd (omega arith)
-digit_turn {l} at (suc w) n h e s =
-    let f : suc w - 1 ≡ w = omega arith in
-    rw (s.is, e, f) (sets_last (decimal w (n / 10)) l at (at + w) _ (rw length_decimal))
+-- as they stand in a slice of all ten
+pub last_of_ten : (w n : ℕ) → w ≤ 10 → take (10 - (10 - w)) (drop (10 - w) (decimal 10 n)) ≡ decimal w n
+last_of_ten w n h =
+    rw (last_digits (10 - w) w 10 n (omega arith)) (take_all (10 - (10 - w)) (decimal w n) (omega (arith, length_decimal w n)))
