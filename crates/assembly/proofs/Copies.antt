@@ -79,7 +79,6 @@ weight_perm s (Permᴰ.trans d₁ d₂) = weight_perm s d₁ ∙ weight_perm s d
 
 module _ (s : Slate) (ok : good_slate s ≡ true) (frame : List ℕ) (fits : length frame ≡ frame_size s) where
   balance : (fs : List File) → alreadies (answers s frame fs) + tally (λ k. came s k fs) 99 ≡ weight s fs
-  unfolding checked
   balance [] = let e = none_yet 99 in omega arith
   balance (f ∷ fs) = rw (answered s ok frame fits fs f) (go (judge fine (checks f)) (matching s (facts_of f)) (came s (facts_of f).number fs) refl refl refl (balance fs))
     where

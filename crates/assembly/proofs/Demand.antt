@@ -10,7 +10,7 @@ use native.Mathlib.Omega.{arith}
 use borrow.Author.Tests.{eq-eqb, eqb-true, le-leb}
 use lib.Dec.{eqb, leb}
 use lib.ListN.{length, take, drop, replicate}
-use Rattle.rules.specs.Rules.{turned, checked, Ruling, fine, refused, judge}
+use Rattle.rules.specs.Rules.{row, turned, checked, Ruling, fine, refused, judge}
 use Rattle.rules.proofs.Judge.{tried, table, last}
 use Rattle.accept.specs.Checks.{checks}
 use Rattle.accept.specs.Answers.{facts_of}
@@ -157,11 +157,10 @@ module _ (s : Slate) (ok : good_slate s ≡ true) (frame : List ℕ) (fits : len
 
   -- each file's answer is that of the file alone
   pub same_answers : (fs : List File) → Apart s fs → answers s frame fs ≡ map (alone s) fs
-  unfolding checked
   same_answers [] a = refl
   same_answers (f ∷ fs) a =
       rw (answered s ok frame fits fs f, same_answers fs (λ k. let h = a k in omega arith))
-      (ap (λ (x : Ruling). x ∷ map (alone s) fs) (go (judge fine (checks f)) (matching s (facts_of f)) refl refl ∙ tried (table refl (table refl last))))
+      (ap (λ (x : Ruling). x ∷ map (alone s) fs) (go (judge fine (checks f)) (matching s (facts_of f)) refl refl ∙ tried {ts = checks f ∷ (row (matching s (facts_of f)) 15 0 0 ∷ []) ∷ []} (table refl (table refl last))))
     where
       go : (v : Ruling) (m : Bool) → judge fine (checks f) ≡ v → matching s (facts_of f) ≡ m
           → settle v m (not (came s (facts_of f).number fs)) ≡ checked v m (turned 15 0 0)
@@ -208,7 +207,7 @@ module _ (s : Slate) (ok : good_slate s ≡ true) (frame : List ℕ) (fits : len
 
   -- and those are the numbers of the placed files
   pub placed_came : (fs : List File) (k : ℕ) → placed k fs (answers s frame fs) ≡ came s k fs
-  unfolding bears checked
+  unfolding bears
   placed_came [] k = refl
   placed_came (f ∷ fs) k =
       rw (placed_came fs k, answered s ok frame fits fs f)

@@ -172,10 +172,10 @@ module _ (s : Slate) (ok : good_slate s ≡ true) (fs : List File) (f : File) wh
   is_ready = (exactly (ready s (marks_of s fs) (length (frame_of s fs)))).1 (holds ok (holds (marks_none s fs) (holds (eq-eqb _ _ (frame_length s fs)) tt)))
 
   pub answer_is : (h : State) → Closed s fs h → offered s h.marks (length h.frame) f ≡ settled s fs f
-  unfolding offering placing checked
+  unfolding offering placing
   answer_is h c =
       rw (c.marks, c.frame)
-      (sym (tried (table (sym is_ready) (table refl (table refl last))))
+      (sym (tried {ts = ready s (marks_of s fs) (length (frame_of s fs)) ∷ checks f ∷ placing s (marks_of s fs) f ∷ []} (table (sym is_ready) (table refl (table refl last))))
       ∙ go (judge fine (checks f)) (matching s (facts_of f)) refl refl)
     where
       go : (v : Ruling) (m : Bool) → judge fine (checks f) ≡ v → matching s (facts_of f) ≡ m
@@ -249,7 +249,7 @@ module _ (s : Slate) (fs : List File) (f : File) where
       false≢true (rw c at q.0))
 
   closed_next : good_slate s ≡ true → (h : State) → Closed s fs h → Closed s (f ∷ fs) (next s h f)
-  unfolding record_after frame_after after checked
+  unfolding record_after frame_after after
   closed_next ok h c = rw (answer_is s ok fs f h c) (go (judge fine (checks f)) (matching s (facts_of f)) (came s (facts_of f).number fs) refl refl refl)
     where
       go : (v : Ruling) (m o : Bool) → judge fine (checks f) ≡ v → matching s (facts_of f) ≡ m → came s (facts_of f).number fs ≡ o

@@ -1,8 +1,7 @@
 -- Calls of `frame::open`, `offer` and `line_of`, by the contracts as their source has them: `Post` is that of a call with lifetimes κ,
 -- arguments a and result r, where t is what stands behind the references at exit.
 use Rattle.std.specs.Prelude.{ℕ, ◌≡◌, List, [], ◌∷◌, map}
-use Rattle.rules.specs.Rules.{Ruling, paper}
-use Rattle.rules.specs.declared.Verdict.{Verdict}
+use Rattle.rules.specs.Rules.{Ruling, Verdict, paper}
 use Rattle.slate.specs.declared.Slate.{Slate}
 use Rattle.frame.specs.declared.Record.{Record}
 use Rattle.frame.proofs.open.Reads as opening
