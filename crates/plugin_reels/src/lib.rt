@@ -7,17 +7,41 @@ ghost use Rattle.reel.specs.Writing.{listed, wrote, written};
 ghost use Rattle.plugin_reels.specs.Reels.{shown_reel, shown_place};
 
 use plugin::HsdAnswer;
-use reel::Opened;
+use reel::Place;
+use rules::Refusal;
 
 // files is 0 for a refused reel.
 #[repr(C)]
-#[derive(Clone, Copy)]
+#[derive(Clone, Copy, Default)]
 pub struct HsdReel {
     pub refusal: u8,
     pub block: u8,
     pub files: u16,
     // of a file's refusal, from that file's first byte
     pub offset: u32,
+}
+
+impl From<Result<u16, Refusal>> for HsdReel {
+    ghost use Rattle.rules.specs.Rules.{paper_reply};
+    ghost use Rattle.plugin_reels.specs.Reels.{shown_reel};
+
+    #[tactic(auto, unfolding(crate::specs::Reels::shown_reel))]
+    fn from(answer: Result<u16, Refusal>) -> HsdReel
+        ensures { result ≡ shown_reel (paper_reply answer) }
+    {
+        match answer {
+            Ok(files) => HsdReel {
+                files,
+                ..HsdReel::default()
+            },
+            Err(t) => HsdReel {
+                refusal: rules::number_of(t.why),
+                block: t.block,
+                files: 0,
+                offset: t.offset,
+            },
+        }
+    }
 }
 
 // Where a file stands in a reel.
@@ -28,40 +52,31 @@ pub struct HsdPart {
     pub length: u32,
 }
 
+impl From<Place> for HsdPart {
+    ghost use Rattle.plugin_reels.specs.Reels.{shown_place};
+
+    fn from(p: Place) -> HsdPart
+        ensures { result ≡ shown_place p }
+    {
+        HsdPart {
+            offset: p.offset,
+            length: p.length,
+        }
+    }
+}
+
 // Opens a reel.
-#[tactic(auto, unfolding(reel::specs::Reels::paper_opened, crate::specs::Reels::shown_reel))]
 pub fn hsd_reel_open(reel: &[u8]) -> HsdReel
     ensures { result ≡ shown_reel (opened reel.now) }
 {
-    let answer = reel::open(reel);
-    match answer {
-        Opened::Files(n) => HsdReel {
-            refusal: 0,
-            block: 0,
-            files: n,
-            offset: 0,
-        },
-        Opened::Refused(t) => {
-            let why = t.why;
-            HsdReel {
-                refusal: rules::number_of(why),
-                block: t.block,
-                files: 0,
-                offset: t.offset,
-            }
-        }
-    }
+    HsdReel::from(reel::open(reel))
 }
 
 // Where the file of a number stands.
 pub fn hsd_reel_part(reel: &[u8], number: u16) -> HsdPart
     ensures { result ≡ shown_place (place_of reel.now number) }
 {
-    let p = reel::place_of(reel, number);
-    HsdPart {
-        offset: p.offset,
-        length: p.length,
-    }
+    HsdPart::from(reel::place_of(reel, number))
 }
 
 // How long a trailer is.
@@ -76,7 +91,7 @@ pub fn hsd_reel_write(files: &[u8], lengths: &[u32], out: &mut [u8]) -> HsdAnswe
     ensures value { result ≡ shown_ruling (wrote files.now lengths.now (reel_of (listed files.now lengths.now)) out.old) }
     ensures out_after { out.new ≡ written files.now lengths.now (reel_of (listed files.now lengths.now)) out.old }
 {
-    plugin::answer_of(reel::write(files, lengths, out))
+    HsdAnswer::from(reel::write(files, lengths, out))
 }
 
 // Writes its trailer alone.
@@ -84,5 +99,5 @@ pub fn hsd_reel_seal(files: &[u8], lengths: &[u32], out: &mut [u8]) -> HsdAnswer
     ensures value { result ≡ shown_ruling (wrote files.now lengths.now (trailer_of (listed files.now lengths.now)) out.old) }
     ensures out_after { out.new ≡ written files.now lengths.now (trailer_of (listed files.now lengths.now)) out.old }
 {
-    plugin::answer_of(reel::seal(files, lengths, out))
+    HsdAnswer::from(reel::seal(files, lengths, out))
 }
