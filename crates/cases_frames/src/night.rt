@@ -1,38 +1,35 @@
 // The night that this is for: nine segments of 0200 have come, and one of 0210 in the place of the tenth.
-use crate::plan;
-use crate::plan::{AND, ASK, OFFER, OPEN, SHOW};
+use crate::step::Change::{Day, Segment, Timeline};
+use crate::step::Deed::{Ask, Offer, Open, Show};
+use crate::step::Step;
 
-pub const NIGHT: [usize; 29] = [
-    OPEN,
-    OFFER + plan::SEGMENT + 1_001,
-    OFFER + plan::SEGMENT + 2_003,
-    OFFER + plan::SEGMENT + 3_005,
-    OFFER + plan::SEGMENT + 4_007,
-    OFFER + plan::SEGMENT + 5_009,
-    OFFER + plan::SEGMENT + 6_011,
-    OFFER + plan::SEGMENT + 7_013,
-    OFFER + plan::SEGMENT + 8_015,
-    OFFER + plan::SEGMENT + 9_017,
+pub static NIGHT: &[Step] = &[
+    Step(&[], Open),
+    Step(&[Segment(1, 1)], Offer),
+    Step(&[Segment(2, 3)], Offer),
+    Step(&[Segment(3, 5)], Offer),
+    Step(&[Segment(4, 7)], Offer),
+    Step(&[Segment(5, 9)], Offer),
+    Step(&[Segment(6, 11)], Offer),
+    Step(&[Segment(7, 13)], Offer),
+    Step(&[Segment(8, 15)], Offer),
+    Step(&[Segment(9, 17)], Offer),
     // the stray, and the lines that it would have had
-    AND + plan::TIMELINE + 210,
-    OFFER + plan::SEGMENT + 10_019,
-    ASK + plan::LINE + 1,
-    ASK + plan::LINE + 18,
-    ASK + plan::LINE + 19,
-    ASK + plan::LINE + 20,
+    Step(&[Timeline(210), Segment(10, 19)], Offer),
+    Step(&[], Ask(1)),
+    Step(&[], Ask(18)),
+    Step(&[], Ask(19)),
+    Step(&[], Ask(20)),
     // 0200 of the next day
-    AND + plan::DAY + 57211,
-    OFFER + plan::SEGMENT + 10_019,
-    ASK + plan::LINE + 19,
+    Step(&[Day(57211), Segment(10, 19)], Offer),
+    Step(&[], Ask(19)),
     // the tenth, and what would have come instead
-    OFFER + plan::SEGMENT + 10_019,
-    AND + plan::TIMELINE + 210,
-    OFFER + plan::SEGMENT + 10_019,
-    AND + plan::DAY + 57211,
-    OFFER + plan::SEGMENT + 10_019,
-    ASK + plan::LINE + 18,
-    ASK + plan::LINE + 19,
-    ASK + plan::LINE + 20,
-    ASK + plan::LINE + 21,
-    SHOW,
+    Step(&[Segment(10, 19)], Offer),
+    Step(&[Timeline(210), Segment(10, 19)], Offer),
+    Step(&[Day(57211), Segment(10, 19)], Offer),
+    Step(&[], Ask(18)),
+    Step(&[], Ask(19)),
+    Step(&[], Ask(20)),
+    Step(&[], Ask(21)),
+    Step(&[], Show),
 ];

@@ -1,179 +1,115 @@
-// A plan: what a slate, a file and a question are made of, each part at its place.
-// A step is a number: what is done, the part that is changed for it, and that part's value below 2 to the 32.
-ghost use Rattle.std.specs.Prelude.{◌<◌};
-
-use crate::words;
+// A plan: what a slate and a file are made of, and how much of the file, the strip and the leader is lent.
+use crate::step::Change;
 use slate::{Slate, Slated};
-use std::io;
 
-// The part, of which there are 19, and what is done are multiples of these.
-pub const PART: usize = 0x1_0000_0000;
-
-pub const DEED: usize = 19 * PART;
-
-// Nothing yet: the change is for the next step.
-pub const AND: usize = 0 * DEED;
-
-pub const TRY: usize = 1 * DEED;
-
-pub const OPEN: usize = 2 * DEED;
-
-pub const OFFER: usize = 3 * DEED;
-
-pub const ASK: usize = 4 * DEED;
-
-// The strip is shown as it lies there.
-pub const SHOW: usize = 5 * DEED;
-
-// A number is marked by hand, or all 99 where none is named.
-pub const MARK: usize = 6 * DEED;
-
-// The parts of a slate; a file has them, too.
-pub const SATELLITE: usize = 1 * PART;
-
-pub const DAY: usize = 2 * PART;
-
-pub const TIMELINE: usize = 3 * PART;
-
-pub const BAND: usize = 4 * PART;
-
-pub const AREA: usize = 5 * PART;
-
-pub const COLUMNS: usize = 6 * PART;
-
-pub const TOTAL: usize = 7 * PART;
-
-pub const LINES: usize = 8 * PART;
-
-// The parts that a file alone has. Its number times 1,000, and its first line.
-pub const SEGMENT: usize = 9 * PART;
-
-pub const ORDER: usize = 10 * PART;
-
-// Its counts: they tell the take, the first line and their places, or are 65,534 in take 0.
-pub const TAKE: usize = 11 * PART;
-
-// How many entries its block 10 has.
-pub const ENTRIES: usize = 12 * PART;
-
-// A byte that is damaged: its place times 256, and what it is.
-pub const BYTE: usize = 13 * PART;
-
-// How many bytes there are.
-pub const BYTES: usize = 14 * PART;
-
-// How many counts the strip and the leader have that are lent, the line that is asked for, and the number that is marked.
-pub const STRIP: usize = 15 * PART;
-
-pub const LEADER: usize = 16 * PART;
-
-pub const LINE: usize = 17 * PART;
-
-pub const NUMBER: usize = 18 * PART;
-
-fn place(x: usize) -> usize
-    ensures { result < 19 }
-{
-    x / PART % 19
+#[derive(Clone, Copy)]
+pub struct Plan {
+    // the file's values; the slate has the same, and the day for the date
+    sample: samples::Plan,
+    day: u32,
+    // which counts the file has
+    take: u8,
+    // a byte of the file, and what it is instead
+    damage: Option<(usize, u8)>,
+    // how many bytes of the file are lent, and how many counts of the strip and of the leader
+    pub bytes: usize,
+    pub strip: usize,
+    pub leader: usize,
 }
 
-fn value(x: usize) -> usize
-    ensures { result < 4294967296 }
-{
-    x % PART
-}
-
-pub(crate) fn of(p: [usize; 19], part: usize) -> usize {
-    p[place(part)]
-}
-
-pub(crate) fn long(p: [usize; 19], part: usize) -> u32 {
-    (of(p, part) % PART) as u32
-}
-
-pub(crate) fn short(p: [usize; 19], part: usize) -> u16 {
-    (of(p, part) % 65536) as u16
-}
-
-pub(crate) fn byte(p: [usize; 19], part: usize) -> u8 {
-    (of(p, part) % 256) as u8
-}
-
-pub(crate) fn changed(p: [usize; 19], x: usize) -> [usize; 19] {
-    let mut q = p;
-    q[place(x)] = value(x);
-    q
-}
-
-// Segment 1 of the night at 0200, cut into so many columns, segments and lines, with a strip of so many counts and a file
-// of so many bytes. The damaged byte lies past its end.
-pub(crate) fn cut(
-    columns: usize,
-    total: usize,
-    lines: usize,
-    strip: usize,
-    bytes: usize,
-) -> [usize; 19] {
-    [
-        0,
-        8,
-        57210,
-        200,
-        13,
-        0x464c_444b,
-        columns,
-        total,
-        lines,
-        1_001,
-        0,
-        1,
-        0,
-        0xffff_00,
-        bytes,
-        strip,
-        4,
-        1,
-        0,
-    ]
-}
-
-pub(crate) fn slate_of(p: [usize; 19]) -> Slated {
-    let heights = [short(p, LINES); 99];
-    Slate::new(
-        byte(p, SATELLITE),
-        long(p, DAY),
-        short(p, TIMELINE),
-        short(p, BAND),
-        long(p, AREA),
-        short(p, COLUMNS),
-        byte(p, TOTAL),
-        heights,
-    )
-}
-
-// Two numbers in one value.
-fn pair(rt: &impl Print, a: usize, between: usize, b: usize) -> io::Result<()> {
-    words::number(rt, a)?;
-    words::tell(rt, between)?;
-    words::number(rt, b)
-}
-
-fn tell_value(rt: &impl Print, part: usize, x: usize) -> io::Result<()> {
-    match part {
-        AREA => words::letters(rt, (x % PART) as u32),
-        SEGMENT => pair(rt, x / 1000, words::FROM_LINE, x % 1000),
-        BYTE => pair(rt, x / 256, words::AS, x % 256),
-        _ => words::number(rt, x),
+impl Plan {
+    // Segment 1 of the night at 0200, cut into so many columns, segments and lines, all of it lent.
+    pub fn cut(columns: u16, total: u8, lines: u16) -> Plan {
+        let counts = usize::from(columns) * usize::from(lines);
+        Plan {
+            sample: samples::Plan {
+                columns,
+                total,
+                lines,
+                ..samples::paper()
+            },
+            day: 57210,
+            take: 1,
+            damage: None,
+            bytes: 1463 + 2 * counts,
+            strip: counts * usize::from(total),
+            leader: 4,
+        }
     }
-}
 
-// Tells of a change, where it is one, and what is done.
-pub(crate) fn tell(rt: &impl Print, x: usize) -> io::Result<()> {
-    let part = place(x);
-    if part != 0 {
-        words::tell(rt, part)?;
-        tell_value(rt, part * PART, value(x))?;
-        rt.write_all(b", ")?;
+    pub fn changed(self, changes: &[Change]) -> Plan {
+        let mut plan = self;
+        for change in changes {
+            plan.change(*change);
+        }
+        plan
     }
-    words::tell(rt, words::DEEDS + x / DEED)
+
+    fn change(&mut self, change: Change) {
+        match change {
+            Change::Satellite(digit) => self.sample.satellite = digit,
+            Change::Day(day) => self.day = day,
+            Change::Timeline(timeline) => self.sample.timeline = timeline,
+            Change::Band(band) => self.sample.band = band,
+            Change::Area(letters) => self.sample.area = wire::number_at(letters.as_bytes(), 0, 1),
+            Change::Columns(columns) => self.sample.columns = columns,
+            Change::Total(total) => self.sample.total = total,
+            Change::Lines(lines) => self.sample.lines = lines,
+            Change::Segment(number, first) => {
+                self.sample.number = number;
+                self.sample.first = first;
+            }
+            Change::Order(order) => self.sample.order = order,
+            Change::Take(take) => self.take = take,
+            Change::Entries(entries) => self.sample.c = entries,
+            Change::Byte(at, byte) => self.damage = Some((at, byte)),
+            Change::Bytes(bytes) => self.bytes = bytes,
+            Change::Strip(counts) => self.strip = counts,
+            Change::Leader(counts) => self.leader = counts,
+        }
+    }
+
+    pub fn slate(self) -> Slated {
+        let shot = self.sample;
+        Slate::new(
+            shot.satellite,
+            self.day,
+            shot.timeline,
+            shot.band,
+            shot.area,
+            shot.columns,
+            shot.total,
+            [shot.lines; 99],
+        )
+    }
+
+    // The first count, and what the next one is more. Take 1 of line 19 is 11901, 11902 and so on; take 0 is 65,534 throughout.
+    fn counts(self) -> (u16, u16) {
+        if self.take == 0 {
+            return (65534, 0);
+        }
+        let count = u32::from(self.take) * 10000 + u32::from(self.sample.first) * 100 + 1;
+        ((count % 65536) as u16, 1)
+    }
+
+    // The file, and then its damage: as many bytes as the longest file has.
+    pub fn file(self) -> [u8; 1495] {
+        let (count, step) = self.counts();
+        // files are of July 2015, before which 57,203 is the last day
+        let date = 20150700 + self.day % 57203;
+        let mut file = [0; 1495];
+        samples::make(
+            &mut file,
+            samples::Plan {
+                date,
+                count,
+                step,
+                ..self.sample
+            },
+        );
+        if let Some((at, byte)) = self.damage {
+            wire::put_byte(&mut file, at, byte);
+        }
+        file
+    }
 }
