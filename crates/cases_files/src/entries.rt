@@ -1,80 +1,81 @@
 // Numbers of entries and sizes that pass what two bytes hold, and more than the file has.
-use crate::change::{AND, BIG, BIG_FULL, LITTLE, LITTLE_FULL};
-use crate::set::BLOCK;
-use crate::{good, set};
+use crate::cases::Case;
+use crate::cases::Start::*;
+use crate::changes::Change::*;
+use crate::fields::Field::*;
+use crate::fields::*;
 
-pub const COUNTED: [usize; 64] = [
+pub static COUNTED: &[Case] = &[
     // one entry less or more than the length says
-    LITTLE_FULL + set::A + 3,
-    BIG_FULL + set::A + 5,
-    LITTLE_FULL + set::B + 1,
-    BIG_FULL + set::B + 3,
-    LITTLE_FULL + set::C + 2,
-    BIG_FULL + set::C + 4,
+    Case(LittleFull, &[Set(ENTRIES8, 3)]),
+    Case(BigFull, &[Set(ENTRIES8, 5)]),
+    Case(LittleFull, &[Set(ENTRIES9, 1)]),
+    Case(BigFull, &[Set(ENTRIES9, 3)]),
+    Case(LittleFull, &[Set(ENTRIES10, 2)]),
+    Case(BigFull, &[Set(ENTRIES10, 4)]),
     // a length that agrees moves the next block away
-    LITTLE + set::A + 1,
-    AND + set::LENGTH + 8 * BLOCK + 71,
-    BIG_FULL + set::B + 1,
-    AND + set::LENGTH + 9 * BLOCK + 55,
-    LITTLE_FULL + set::C + 4,
-    AND + set::LENGTH + 10 * BLOCK + 63,
+    Case(Little, &[Set(ENTRIES8, 1), Set(Length(8), 71)]),
+    Case(BigFull, &[Set(ENTRIES9, 1), Set(Length(9), 55)]),
+    Case(LittleFull, &[Set(ENTRIES10, 4), Set(Length(10), 63)]),
     // block 8: 65,531 is the longest; of one entry more only a part of the length can stand there
-    LITTLE + good::A + 6547,
-    LITTLE + good::A + 6548,
-    BIG + set::A + 6548,
-    AND + set::LENGTH + 8 * BLOCK + 5,
-    LITTLE + set::A + 65535,
-    AND + set::LENGTH + 8 * BLOCK + 51,
+    Case(Little, &[Entries8(6547)]),
+    Case(Little, &[Entries8(6548)]),
+    Case(Big, &[Set(ENTRIES8, 6548), Set(Length(8), 5)]),
+    Case(Little, &[Set(ENTRIES8, 65535), Set(Length(8), 51)]),
     // block 9: 65,535 is the longest
-    BIG + good::B + 6549,
-    LITTLE + good::B + 6550,
-    LITTLE + set::B + 6550,
-    AND + set::LENGTH + 9 * BLOCK + 9,
-    BIG + set::B + 65535,
-    AND + set::LENGTH + 9 * BLOCK + 35,
+    Case(Big, &[Entries9(6549)]),
+    Case(Little, &[Entries9(6550)]),
+    Case(Little, &[Set(ENTRIES9, 6550), Set(Length(9), 9)]),
+    Case(Big, &[Set(ENTRIES9, 65535), Set(Length(9), 35)]),
     // block 10: a length of four bytes holds every one, and two of them do not suffice
-    LITTLE + good::C + 16372,
-    BIG + good::C + 16373,
-    LITTLE + set::C + 16373,
-    AND + set::LENGTH + 10 * BLOCK + 65539,
-    BIG + set::C + 16373,
-    AND + set::LENGTH + 10 * BLOCK + 3,
-    LITTLE + set::C + 16373,
-    AND + set::HALF + 3,
-    BIG + set::HALF + 47,
-    LITTLE + good::C + 65535,
-    BIG + good::C + 65535,
-    AND + set::LENGTH + 10 * BLOCK + 43,
+    Case(Little, &[Entries10(16372)]),
+    Case(Big, &[Entries10(16373)]),
+    Case(Little, &[Set(ENTRIES10, 16373), Set(Length(10), 65539)]),
+    Case(Big, &[Set(ENTRIES10, 16373), Set(Length(10), 3)]),
+    Case(Little, &[Set(ENTRIES10, 16373), Set(HALF_LENGTH, 3)]),
+    Case(Big, &[Set(HALF_LENGTH, 47)]),
+    Case(Little, &[Entries10(65535)]),
+    Case(Big, &[Entries10(65535), Set(Length(10), 43)]),
     // sizes whose counts pass what two bytes hold, cut where two bytes of the product would end, or where the room ends
     // CUT, and not good
-    LITTLE + good::COLUMNS + 256,
-    AND + good::LINES + 128,
-    AND + set::DATA + 65536,
-    AND + set::BYTES + 1463,
-    LITTLE + good::COLUMNS + 256,
-    AND + good::LINES + 129,
-    AND + set::DATA + 66048,
-    AND + set::BYTES + 1975,
-    BIG + good::COLUMNS + 22000,
-    AND + good::LINES + 22000,
-    AND + set::DATA + 968000000,
-    AND + set::BYTES + 65536,
+    Case(
+        Little,
+        &[Columns(256), Lines(128), Set(DATA_SUM, 65536), Bytes(1463)],
+    ),
+    Case(
+        Little,
+        &[Columns(256), Lines(129), Set(DATA_SUM, 66048), Bytes(1975)],
+    ),
+    Case(
+        Big,
+        &[
+            Columns(22000),
+            Lines(22000),
+            Set(DATA_SUM, 968000000),
+            Bytes(65536),
+        ],
+    ),
     // DATA SUM, and not good
-    LITTLE + good::COLUMNS + 256,
-    AND + good::LINES + 128,
-    AND + set::DATA + 0,
-    AND + set::BYTES + 1463,
-    BIG + good::COLUMNS + 256,
-    AND + good::LINES + 129,
-    AND + set::DATA + 512,
-    AND + set::BYTES + 1975,
-    LITTLE + good::COLUMNS + 22000,
-    AND + good::LINES + 22000,
-    AND + set::DATA + 33280,
-    AND + set::BYTES + 34743,
+    Case(
+        Little,
+        &[Columns(256), Lines(128), Set(DATA_SUM, 0), Bytes(1463)],
+    ),
+    Case(
+        Big,
+        &[Columns(256), Lines(129), Set(DATA_SUM, 512), Bytes(1975)],
+    ),
+    Case(
+        Little,
+        &[
+            Columns(22000),
+            Lines(22000),
+            Set(DATA_SUM, 33280),
+            Bytes(34743),
+        ],
+    ),
     // the widest line with its last byte missing
-    LITTLE + good::COLUMNS + 22000,
-    AND + good::LINES + 1,
-    AND + set::DATA + 44000,
-    AND + set::BYTES + 45462,
+    Case(
+        Little,
+        &[Columns(22000), Lines(1), Set(DATA_SUM, 44000), Bytes(45462)],
+    ),
 ];
