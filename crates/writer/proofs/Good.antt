@@ -13,7 +13,7 @@ use Rattle.accept.specs.Checks.{fields1, fields2, fields5, fields7, names}
 use Rattle.header.specs.declared.Header.{Header}
 use Rattle.header.specs.Places.{header_length}
 use Rattle.header.specs.Encode.{Entries}
-use Rattle.writer.specs.Given.{orders, lengths8, lengths9, lengths10, room, given, ruled}
+use Rattle.writer.specs.Given.{orders, lengths8, lengths9, lengths10, room, parts, given, ruled}
 use Rattle.writer.specs.Sizes.{Fits}
 
 -- values and entries that are good to write
@@ -36,7 +36,7 @@ size_most n e = leb-true n 22000 ((and-eq-true_iff (leb 1 n) (leb n 22000)).0 e)
 pub good_is : (v : Header) (e : Entries) (n : ℕ) → ruled v e n ≡ fine → Good v e × Roomy e n
 unfolding given orders fields2 lengths8 lengths9 lengths10 room
 good_is v e n q =
-    let h = each_is _ ((holds_unplaced _).0 ((exactly (given v e n)).0 q)) in
+    let h = each_is (parts v e n) ((holds_unplaced _).0 ((exactly (given v e n)).0 q)) in
     let h2 = h.1.1.0 in
     let h8 = h.1.1.1.1.1.0 in
     let h9 = h.1.1.1.1.1.1.0 in
@@ -68,7 +68,7 @@ unfolding given orders lengths8 lengths9 lengths10 room
 good_of v e n g r =
     let f = g.fits in
     (exactly (given v e n)).1
-    ((holds_unplaced _).1 (each_of _
+    ((holds_unplaced _).1 (each_of (parts v e n)
     (holds (holds (le-leb _ _ g.order) tt)
     (holds g.fields1
     (holds g.fields2

@@ -1,4 +1,4 @@
 -- The laws that the proofs share.
 pub mod Good
-pub mod Storing
+pub mod Scattered
 pub mod Written

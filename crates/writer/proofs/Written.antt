@@ -1,19 +1,18 @@
 -- A header that was stored in two parts, and the output after a verdict.
 -- Assumes nothing.
-use mathlib.Core.Path.{◌≡◌, refl, sym, ap, ◌∙◌}
+use mathlib.Core.Path.{◌≡◌, refl, sym, ◌∙◌}
 use mathlib.Core.List.{List, [], ◌∷◌, ◌++◌, append_assoc}
 use Prim.Native.Nat.{ℕ, ◌+◌}
 use lib.ListN.{length, length-append}
 use Rattle.wire.specs.Wire.{join, Stored}
 use Rattle.wire.proofs.Stores.{store_append, front}
-use Rattle.rules.specs.Rules.{paper, fine, after}
+use Rattle.std.specs.Prelude.{Ok, Err}
+use Rattle.rules.specs.Rules.{paper_of, fine, refused, after}
 use Rattle.rules.specs.declared.Refusal.{Refusal}
-use Rattle.rules.specs.declared.Verdict.{Verdict}
-use Rattle.rules.specs.declared.Verdict.TheVariants.{Fine, Refused}
 use Rattle.header.specs.declared.Header.{Header}
-use Rattle.header.specs.Places.{header_length}
-use Rattle.header.specs.Encode.{Entries, encode}
+use Rattle.header.specs.Encode.{Entries, encode, length_for}
 use Rattle.writer.specs.Given.{ruled, Wrote}
+use Rattle.writer.specs.Sizes.{Fits}
 use Rattle.writer.proofs.Good.{good_is}
 
 join_append : (ps qs : List (List ℕ)) → join (ps ++ qs) ≡ join ps ++ join qs
@@ -30,22 +29,20 @@ both ps qs {l} {m} {out} {at} {w} {k} n e s t = record {
 }
 
 -- the header and then the rest as it was
-pub wrote_fine : {l out : List ℕ} {v : Header} {e : Entries} {r : Verdict}
-    → paper r ≡ ruled v e (length l) → r ≡ Fine
-    → Stored (header_length (length e.lines8) (length e.lines9) (length e.lines10)) l 0 (encode v e) out
-    → Wrote l v e Fine out
-unfolding after paper
-wrote_fine {l} {out} {v} {e} p f s =
-    let g : ruled v e (length l) ≡ fine = sym p ∙ ap paper f in
-    record {
-      says = sym g;
-      leaves = rw (g, s.long) (front s (good_is v e (length l) g).1);
-    }
+pub wrote_fine : (l out : List ℕ) (v : Header) (e : Entries) (u : Unit) → ruled v e (length l) ≡ fine → Stored (length_for e) l 0 (encode v e) out → Wrote l v e (Ok u) out
+unfolding after
+wrote_fine l out v e u g s = record {
+  says = sym g;
+  leaves = rw (g, s.long) (front s (good_is v e (length l) g).1);
+}
 
 -- a refusal leaves all as it was
-pub wrote_not : {l : List ℕ} {v : Header} {e : Entries} {r : Verdict} {t : Refusal}
-    → paper r ≡ ruled v e (length l) → r ≡ Refused t → Wrote l v e (Refused t) l
-unfolding after paper
-wrote_not {l} {v} {e} {r} {t} p f =
-    let g : paper (Refused t) ≡ ruled v e (length l) = ap paper (sym f) ∙ p in
-    record { says = g; leaves = rw (← g) }
+pub wrote_not : (l : List ℕ) (v : Header) (e : Entries) (t : Refusal) → ruled v e (length l) ≡ refused (paper_of t) → Wrote l v e (Err t) l
+unfolding after
+wrote_not l v e t g = record { says = sym g; leaves = rw g }
+
+-- what nothing is wrong with fits
+pub fits_where_fine : (v : Header) (e : Entries) (n : ℕ) → ruled v e n ≡ fine → Fits v e
+fits_where_fine v e n g = (good_is v e n g).0.fits
+
+pub ruleset writing = (wrote_not, fits_where_fine)

@@ -1,7 +1,6 @@
 -- What the writer checks, block by block: 3, then 4, 6, 7; then 10, then 17. The ranges are the reader's own tables.
 use Rattle.std.specs.Prelude.{ℕ, ◌≡◌, List, [], ◌∷◌, ◌++◌, length, drop, leb, eqb}
-use Rattle.rules.specs.Rules.{Row, row, tables, unplaced, judge, Ruling, fine, paper, after}
-use Rattle.rules.specs.declared.Verdict.{Verdict}
+use Rattle.rules.specs.Rules.{Row, row, tables, unplaced, judge, Ruling, fine, paper, after, Verdict}
 use Rattle.header.specs.declared.Header.{Header}
 use Rattle.header.specs.Places.{header_length}
 use Rattle.header.specs.Encode.{Entries, encode}
@@ -10,6 +9,10 @@ use Rattle.accept.specs.Checks.{fields1, fields2, fields5, fields7, names}
 -- block 1: 3 ORDER
 unfoldable pub orders : ℕ → List Row
 orders o = row (leb o 1) 3 1 0 ∷ []
+
+-- block k: 4 LENGTH, more than so many entries or parts that differ in number
+abbrev pub lengths : ℕ → ℕ → ℕ → ℕ → List Row
+lengths k most n m = row (leb n most) 4 k 0 ∷ row (eqb m n) 4 k 0 ∷ []
 
 -- block 8: 4 LENGTH, a above 6,547 or parts that differ in number
 unfoldable pub lengths8 : ℕ → ℕ → ℕ → List Row
@@ -27,10 +30,9 @@ lengths10 c p = row (leb c 65535) 4 10 0 ∷ row (eqb p c) 4 10 0 ∷ []
 unfoldable pub room : ℕ → ℕ → ℕ → ℕ → List Row
 room a b c n = row (leb (header_length a b c) n) 17 0 0 ∷ []
 
--- every check of the writer, for values, entries and n bytes of output: these come from no file
-unfoldable pub given : Header → Entries → ℕ → List Row
-given v e n =
-    unplaced (tables (
+-- the writer's tables in their order, for values, entries and n bytes of output
+abbrev pub parts : Header → Entries → ℕ → List (List Row)
+parts v e n =
     orders v.block1.order
     ∷ fields1 v.block1
     ∷ fields2 v.block2
@@ -42,7 +44,10 @@ given v e n =
     ∷ names v.block1 v.block5 v.block7
     ∷ room (length e.lines8) (length e.lines9) (length e.lines10) n
     ∷ []
-    ))
+
+-- every check of the writer: these come from no file
+unfoldable pub given : Header → Entries → ℕ → List Row
+given v e n = unplaced (tables (parts v e n))
 
 -- the writer's ruling
 abbrev pub ruled : Header → Entries → ℕ → Ruling

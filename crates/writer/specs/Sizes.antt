@@ -1,7 +1,7 @@
 -- The entries as they are lent, the sizes that the writer's checks leave, and what the parts of the writer store.
-use Rattle.std.specs.Prelude.{ℕ, ◌+◌, ◌*◌, ◌≤◌, ◌≡◌, List, length}
+use Rattle.std.specs.Prelude.{ℕ, zero, suc, ◌+◌, ◌*◌, ◌≤◌, ◌≡◌, List, length, get_or}
 use Rattle.header.specs.declared.Header.{Header}
-use Rattle.wire.specs.Wire.{join, rows, Stored}
+use Rattle.wire.specs.Wire.{digits, store, join, rows, Stored}
 use Rattle.header.specs.Places.{at8}
 use Rattle.header.specs.Encode.{Entries, back_blocks, length_for, encode}
 
@@ -30,6 +30,15 @@ pub record Fits (v : Header) (e : Entries) : Type 0 where
   pub ps : length e.pixels ≡ length e.lines10
 
 -- ---- what was stored in l, which gave out
+
+-- the bytes of the i-th of some numbers
+abbrev pub bytes_of : ℕ → ℕ → List ℕ → ℕ → List ℕ
+bytes_of o w ns i = digits o w (get_or ns i 0)
+
+-- l with n pieces stored, the first at `at` and each a stride after the one before
+unfoldable pub scattered : List ℕ → ℕ → ℕ → (ℕ → List ℕ) → ℕ → List ℕ
+scattered l at stride f zero = l
+scattered l at stride f (suc n) = store (scattered l at stride f n) (at + stride * n) (f n)
 
 -- n entries of w bytes each, from at on
 abbrev pub StoredRows : ℕ → ℕ → List ℕ → ℕ → (ℕ → List ℕ) → List ℕ → Type 0

@@ -1,299 +1,175 @@
 #![tactic(auto)]
 // The header written to a lent output: every value that is not derived goes in, and lengths, sums, numbers and fixed values are derived.
-ghost use Rattle.std.specs.Prelude.{◌≡◌, ◌+◌, ◌*◌, ◌<◌, ◌≤◌, [], ◌∷◌, length, leb};
-ghost use Rattle.wire.specs.Wire.{digits, join, Stored};
-ghost use Rattle.rules.specs.Rules.{judge, paper};
-ghost use Rattle.header.specs.Places.{at8, length8, length9, length10, header_length};
-ghost use Rattle.header.specs.Encode.{carrying, entry8, entry9, entry10, bytes8, bytes9, bytes10};
-ghost use Rattle.writer.specs.Given.{orders, lengths8, lengths9, lengths10, room, ruled, Wrote};
-ghost use Rattle.writer.specs.Sizes.{entries_from, Fits, StoredRows, StoredBack, StoredAll};
+ghost use Rattle.std.specs.Prelude.{◌≡◌, ◌<◌, ◌≤◌, length, map, OnOk};
+ghost use Rattle.wire.specs.Wire.{Stored};
+ghost use Rattle.rules.specs.Rules.{judge, tables, fine, paper};
+ghost use Rattle.header.specs.Places.{at8, length8, length9, length10};
+ghost use Rattle.header.specs.Encode.{bytes8, bytes9, bytes10};
+ghost use Rattle.writer.specs.Given.{lengths, parts, ruled, Wrote};
+ghost use Rattle.writer.specs.Sizes.{entries_from, scattered, bytes_of, Fits, StoredBack, StoredAll};
+ghost use Rattle.writer.specs.Lent.{lent};
 
 use header::{Block8, Header};
-use rules::{Verdict, Why};
+use rules::{Refusal, Why};
+use wire::Word;
 
-// One entry of block 8, 9 and 10.
-fn write_entry8(out: &mut [u8], at: usize, order: u8, line: u16, x: u32, y: u32)
-    requires { at < 1000000 }
-    ensures { Stored 10 out.old at (join (digits order 2 line ∷ digits order 4 x ∷ digits order 4 y ∷ [])) out.new }
-{
-    wire::put_u16(out, at, line, order);
-    let at = at + 2;
-    wire::put_u32(out, at, x, order);
-    let at = at + 4;
-    wire::put_u32(out, at, y, order);
+// The entries as they are lent: of block 8 lines, column shifts and line shifts, of 9 lines and times, of 10 lines and error pixels.
+#[derive(Clone, Copy)]
+struct Lent<'a> {
+    lines8: &'a [u16],
+    column_shifts: &'a [u32],
+    line_shifts: &'a [u32],
+    lines9: &'a [u16],
+    times: &'a [u64],
+    lines10: &'a [u16],
+    pixels: &'a [u16],
 }
 
-fn write_entry9(out: &mut [u8], at: usize, order: u8, line: u16, time: u64)
-    requires { at < 1000000 }
-    ensures { Stored 10 out.old at (join (digits order 2 line ∷ digits order 8 time ∷ [])) out.new }
+// A column of numbers, the first at a place and each a stride after the one before.
+#[tactic(auto, using(crate::proofs::Scattered::scattered_more, crate::proofs::Scattered::scattered_none))]
+fn write_column<const N: usize, W: Word<N>>(
+    out: &mut [u8],
+    at: usize,
+    stride: usize,
+    order: u8,
+    numbers: &[W],
+)
+    requires { (at < 1000000) × (stride < 256) × (length numbers.now < 65536) }
+    ensures { out.new ≡ scattered out.old at stride (bytes_of order N (map W.number numbers.now)) (length numbers.now) }
 {
-    wire::put_u16(out, at, line, order);
-    let at = at + 2;
-    wire::put_u64(out, at, time, order);
-}
-
-fn write_entry10(out: &mut [u8], at: usize, order: u8, line: u16, pixels: u16)
-    requires { at < 1000000 }
-    ensures { Stored 4 out.old at (join (digits order 2 line ∷ digits order 2 pixels ∷ [])) out.new }
-{
-    wire::put_u16(out, at, line, order);
-    let at = at + 2;
-    wire::put_u16(out, at, pixels, order);
-}
-
-// The entries of a block.
-fn write_entries8(out: &mut [u8], at: usize, order: u8, ls: &[u16], xs: &[u32], ys: &[u32])
-    requires { (at < 200000) × (length ls.now < 65536) × (length xs.now ≡ length ls.now) × (length ys.now ≡ length ls.now) }
-    ensures { StoredRows (length ls.now) 10 out.old at (entry8 order ls.now xs.now ys.now)
-        out.new }
-{
-    let mut i = 0;
-    while i < ls.len() {
-        write_entry8(out, at + 10 * i, order, ls[i], xs[i], ys[i]);
-        i += 1;
+    for (i, number) in numbers.iter().enumerate() {
+        wire::put_number(out, at + stride * i, *number, order);
     }
 }
 
-fn write_entries9(out: &mut [u8], at: usize, order: u8, ls: &[u16], ts: &[u64])
-    requires { (at < 200000) × (length ls.now < 65536) × (length ts.now ≡ length ls.now) }
-    ensures { StoredRows (length ls.now) 10 out.old at (entry9 order ls.now ts.now) out.new }
+// The blocks with entries. Blocks 9 and 10 stay two functions: their lengths differ in width, and so do the columns.
+fn write8(out: &mut [u8], order: u8, v: Block8, lines: &[u16], xs: &[u32], ys: &[u32])
+    requires { (length lines.now ≤ 6547) × (length xs.now ≡ length lines.now) × (length ys.now ≡ length lines.now) }
+    ensures { Stored (length8 (length lines.now)) out.old at8
+        (bytes8 order v lines.now xs.now ys.now) out.new }
 {
-    let mut i = 0;
-    while i < ls.len() {
-        write_entry9(out, at + 10 * i, order, ls[i], ts[i]);
-        i += 1;
-    }
-}
-
-fn write_entries10(out: &mut [u8], at: usize, order: u8, ls: &[u16], ps: &[u16])
-    requires { (at < 200000) × (length ls.now < 65536) × (length ps.now ≡ length ls.now) }
-    ensures { StoredRows (length ls.now) 4 out.old at (entry10 order ls.now ps.now) out.new }
-{
-    let mut i = 0;
-    while i < ls.len() {
-        write_entry10(out, at + 4 * i, order, ls[i], ps[i]);
-        i += 1;
-    }
-}
-
-// The blocks with entries, and the last one.
-fn write8(out: &mut [u8], order: u8, v: Block8, ls: &[u16], xs: &[u32], ys: &[u32])
-    requires { (length ls.now ≤ 6547) × (length xs.now ≡ length ls.now) × (length ys.now ≡ length ls.now) }
-    ensures { Stored (length8 (length ls.now)) out.old at8
-        (bytes8 order v ls.now xs.now ys.now) out.new }
-{
-    let a = ls.len();
-    let long = (61 + 10 * a) as u16;
-    let end = 1072 + 10 * a;
-    let spare = v.spare;
+    let a = lines.len();
     wire::put_byte(out, 1051, 8);
-    wire::put_u16(out, 1052, long, order);
-    wire::put_u32(out, 1054, v.column, order);
-    wire::put_u32(out, 1058, v.line, order);
-    wire::put_u64(out, 1062, v.rotation, order);
-    wire::put_u16(out, 1070, a as u16, order);
-    write_entries8(out, 1072, order, ls, xs, ys);
-    wire::put40(out, end, spare);
+    wire::put_number(out, 1052, (61 + 10 * a) as u16, order);
+    wire::put_number(out, 1054, v.column, order);
+    wire::put_number(out, 1058, v.line, order);
+    wire::put_number(out, 1062, v.rotation, order);
+    wire::put_number(out, 1070, a as u16, order);
+    write_column(out, 1072, 10, order, lines);
+    write_column(out, 1074, 10, order, xs);
+    write_column(out, 1078, 10, order, ys);
+    wire::put_bytes(out, 1072 + 10 * a, v.spare);
 }
 
-fn write9(out: &mut [u8], at: usize, order: u8, spare: [u8; 40], ls: &[u16], ts: &[u64])
-    requires { (at < 100000) × (length ls.now ≤ 6549) × (length ts.now ≡ length ls.now) }
-    ensures { Stored (length9 (length ls.now)) out.old at (bytes9 order spare ls.now ts.now) out.new }
+fn write9(out: &mut [u8], at: usize, order: u8, spare: [u8; 40], lines: &[u16], times: &[u64])
+    requires { (at < 100000) × (length lines.now ≤ 6549) × (length times.now ≡ length lines.now) }
+    ensures { Stored (length9 (length lines.now)) out.old at (bytes9 order spare lines.now times.now) out.new }
 {
-    let b = ls.len();
+    let b = lines.len();
     wire::put_byte(out, at, 9);
-    let at = at + 1;
-    wire::put_u16(out, at, (45 + 10 * b) as u16, order);
-    let at = at + 2;
-    wire::put_u16(out, at, b as u16, order);
-    let at = at + 2;
-    write_entries9(out, at, order, ls, ts);
-    wire::put40(out, at + 10 * b, spare);
+    wire::put_number(out, at + 1, (45 + 10 * b) as u16, order);
+    wire::put_number(out, at + 3, b as u16, order);
+    write_column(out, at + 5, 10, order, lines);
+    write_column(out, at + 7, 10, order, times);
+    wire::put_bytes(out, at + 5 + 10 * b, spare);
 }
 
-fn write10(out: &mut [u8], at: usize, order: u8, spare: [u8; 40], ls: &[u16], ps: &[u16])
-    requires { (at < 190000) × (length ls.now ≤ 65535) × (length ps.now ≡ length ls.now) }
-    ensures { Stored (length10 (length ls.now)) out.old at (bytes10 order spare ls.now ps.now) out.new }
+// Its length has four bytes, where those of blocks 8 and 9 have two.
+fn write10(out: &mut [u8], at: usize, order: u8, spare: [u8; 40], lines: &[u16], pixels: &[u16])
+    requires { (at < 190000) × (length lines.now ≤ 65535) × (length pixels.now ≡ length lines.now) }
+    ensures { Stored (length10 (length lines.now)) out.old at (bytes10 order spare lines.now pixels.now) out.new }
 {
-    let c = ls.len();
+    let c = lines.len();
     wire::put_byte(out, at, 10);
-    let at = at + 1;
-    wire::put_u32(out, at, (47 + 4 * c) as u32, order);
-    let at = at + 4; // where blocks 8 and 9 have two bytes
-    wire::put_u16(out, at, c as u16, order);
-    let at = at + 2;
-    write_entries10(out, at, order, ls, ps);
-    wire::put40(out, at + 4 * c, spare);
-}
-
-fn write11(out: &mut [u8], at: usize, order: u8, spare: [u8; 256])
-    requires { at < 1000000 }
-    ensures { Stored 259 out.old at (carrying 11 order 259 spare) out.new }
-{
-    wire::put_byte(out, at, 11);
-    let at = at + 1;
-    wire::put_u16(out, at, 259, order);
-    let at = at + 2;
-    wire::put256(out, at, spare);
+    wire::put_number(out, at + 1, (47 + 4 * c) as u32, order);
+    wire::put_number(out, at + 5, c as u16, order);
+    write_column(out, at + 7, 4, order, lines);
+    write_column(out, at + 9, 4, order, pixels);
+    wire::put_bytes(out, at + 7 + 4 * c, spare);
 }
 
 // Blocks 8 to 11, then the whole header, where every count and length has room in its field.
-fn write_back(
-    out: &mut [u8],
-    h: Header,
-    lines8: &[u16],
-    xs: &[u32],
-    ys: &[u32],
-    lines9: &[u16],
-    times: &[u64],
-    lines10: &[u16],
-    pixels: &[u16],
-)
-    requires { Fits h (entries_from lines8.now xs.now ys.now lines9.now times.now lines10.now pixels.now) }
-    ensures { StoredBack out.old h
-        (entries_from lines8.now xs.now ys.now lines9.now
-        times.now lines10.now pixels.now)
-        out.new }
+fn write_back(out: &mut [u8], h: Header, e: Lent<'_>)
+    requires { Fits h (lent e) }
+    ensures { StoredBack out.old h (lent e.entry) out.new }
 {
-    let a = lines8.len() as u16;
-    let b = lines9.len() as u16;
-    let c = lines10.len() as u16;
-    let block1 = h.block1;
-    let block8 = h.block8;
-    let spare9 = h.spare9;
-    let spare10 = h.spare10;
-    let spare11 = h.spare11;
-    write8(out, block1.order, block8, lines8, xs, ys);
-    write9(out, header::place9(a), block1.order, spare9, lines9, times);
-    write10(
+    let a = e.lines8.len() as u16;
+    let b = e.lines9.len() as u16;
+    let c = e.lines10.len() as u16;
+    let order = h.block1.order;
+    let (at9, at10) = (header::place9(a), header::place10(a, b));
+    write8(
         out,
-        header::place10(a, b),
-        block1.order,
-        spare10,
-        lines10,
-        pixels,
+        order,
+        h.block8,
+        e.lines8,
+        e.column_shifts,
+        e.line_shifts,
     );
-    write11(out, header::place11(a, b, c), block1.order, spare11);
+    write9(out, at9, order, h.spare9, e.lines9, e.times);
+    write10(out, at10, order, h.spare10, e.lines10, e.pixels);
+    blocks::write_carrying(out, header::place11(a, b, c), 11, order, h.spare11);
 }
 
-fn write_all(
-    out: &mut [u8],
-    h: Header,
-    lines8: &[u16],
-    xs: &[u32],
-    ys: &[u32],
-    lines9: &[u16],
-    times: &[u64],
-    lines10: &[u16],
-    pixels: &[u16],
-)
-    requires { Fits h (entries_from lines8.now xs.now ys.now lines9.now times.now lines10.now pixels.now) }
-    ensures { StoredAll out.old h
-        (entries_from lines8.now xs.now ys.now lines9.now
-        times.now lines10.now pixels.now)
-        out.new }
+fn write_all(out: &mut [u8], h: Header, e: Lent<'_>)
+    requires { Fits h (lent e) }
+    ensures { StoredAll out.old h (lent e.entry) out.new }
 {
-    let a = lines8.len() as u16;
-    let b = lines9.len() as u16;
-    let c = lines10.len() as u16;
-    let sizes = h.block2;
-    let counts = header::data_length(sizes.columns, sizes.lines) as u32;
-    blocks::write_front(out, h, header::header_length(a, b, c), counts);
-    write_back(out, h, lines8, xs, ys, lines9, times, lines10, pixels);
+    let a = e.lines8.len() as u16;
+    let b = e.lines9.len() as u16;
+    let c = e.lines10.len() as u16;
+    let front = header::header_length(a, b, c);
+    let counts = header::data_length(h.block2.columns, h.block2.lines) as u32;
+    blocks::write_front(out, h, front, counts);
+    write_back(out, h, e);
 }
 
-// Each of these makes the checks of one table, in the table's order.
-fn check_order(v: Verdict, order: u8) -> Verdict
-    ensures { paper result ≡ judge (paper v) (orders order) }
+// A block of n entries, at most so many, and as many of m.
+fn check_lengths(block: u8, most: usize, n: usize, m: usize) -> Result<(), Refusal>
+    ensures ruling { paper result ≡ judge fine (lengths block most n m) }
+    ensures few { OnOk result (n ≤ most) }
 {
-    rules::check(v, order <= 1, Why::Order, 1, 0)
+    rules::require(n <= most, Why::Length, block, 0)?;
+    rules::require(m == n, Why::Length, block, 0)
 }
 
-fn check_lengths8(v: Verdict, a: usize, x: usize, y: usize) -> Verdict
-    ensures { paper result ≡ judge (paper v) (lengths8 a x y) }
+// Every check, with the places that a file's values would have.
+#[tactic(auto, using(rules::proofs::Judge::judging), unfolding(crate::specs::Given::orders, crate::specs::Given::lengths8, crate::specs::Given::lengths9, crate::specs::Given::lengths10, crate::specs::Given::room))]
+fn check_placed(h: Header, e: Lent<'_>, n: usize) -> Result<(), Refusal>
+    ensures { paper result ≡ judge fine (tables (parts h (lent e.entry) n)) }
 {
-    let v = rules::check(v, a <= 6547, Why::Length, 8, 0);
-    let v = rules::check(v, x == a, Why::Length, 8, 0);
-    rules::check(v, y == a, Why::Length, 8, 0)
-}
-
-fn check_lengths9(v: Verdict, b: usize, t: usize) -> Verdict
-    ensures { paper result ≡ judge (paper v) (lengths9 b t) }
-{
-    let v = rules::check(v, b <= 6549, Why::Length, 9, 0);
-    rules::check(v, t == b, Why::Length, 9, 0)
-}
-
-fn check_lengths10(v: Verdict, c: usize, p: usize) -> Verdict
-    ensures { paper result ≡ judge (paper v) (lengths10 c p) }
-{
-    let v = rules::check(v, c <= 65535, Why::Length, 10, 0);
-    rules::check(v, p == c, Why::Length, 10, 0)
-}
-
-// Whether n bytes are not shorter than a header of so many entries: no product that could overflow.
-fn has_room(a: usize, b: usize, c: usize, n: usize) -> bool
-    ensures { result ≡ leb (header_length a b c) n }
-{
-    if n < 1463 {
-        return false;
-    }
-    let n = n - 1463;
-    if n / 10 < a {
-        return false;
-    }
-    let n = n - 10 * a;
-    if n / 10 < b {
-        return false;
-    }
-    let n = n - 10 * b;
-    if n / 4 < c {
-        return false;
-    }
-    true
-}
-
-fn check_room(v: Verdict, a: usize, b: usize, c: usize, n: usize) -> Verdict
-    ensures { paper result ≡ judge (paper v) (room a b c n) }
-{
-    rules::check(v, has_room(a, b, c, n), Why::Room, 0, 0)
+    rules::require(h.block1.order <= 1, Why::Order, 1, 0)?;
+    accept::check_fields1(h.block1)?;
+    accept::check_fields2(h.block2)?;
+    accept::check_fields5(h.block5)?;
+    accept::check_fields7(h.block7, h.block2.lines)?;
+    check_lengths(8, 6547, e.lines8.len(), e.column_shifts.len())?;
+    rules::require(e.line_shifts.len() == e.lines8.len(), Why::Length, 8, 0)?;
+    check_lengths(9, 6549, e.lines9.len(), e.times.len())?;
+    check_lengths(10, 65535, e.lines10.len(), e.pixels.len())?;
+    accept::check_name(h.block1, h.block5, h.block7)?;
+    let (a, b, c) = (
+        e.lines8.len() as u16,
+        e.lines9.len() as u16,
+        e.lines10.len() as u16,
+    );
+    rules::require(
+        header::header_length(a, b, c) as usize <= n,
+        Why::Room,
+        0,
+        0,
+    )
 }
 
 // Judges the values and entries that a header is to be written of, and the room of n bytes.
-fn check_given(
-    h: Header,
-    lines8: &[u16],
-    xs: &[u32],
-    ys: &[u32],
-    lines9: &[u16],
-    times: &[u64],
-    lines10: &[u16],
-    pixels: &[u16],
-    n: usize,
-) -> Verdict
-    ensures { paper result ≡ ruled h
-        (entries_from lines8.now xs.now ys.now lines9.now
-        times.now lines10.now pixels.now)
-        n }
+fn check_given(h: Header, e: Lent<'_>, n: usize) -> Result<(), Refusal>
+    ensures { paper result ≡ ruled h (lent e.entry) n }
 {
-    let block1 = h.block1;
-    let block2 = h.block2;
-    let block5 = h.block5;
-    let block7 = h.block7;
-    let v = check_order(Verdict::Fine, block1.order);
-    let v = accept::check_fields1(v, block1);
-    let v = accept::check_fields2(v, block2);
-    let v = accept::check_fields5(v, block5);
-    let v = accept::check_fields7(v, block7, block2.lines);
-    let v = check_lengths8(v, lines8.len(), xs.len(), ys.len());
-    let v = check_lengths9(v, lines9.len(), times.len());
-    let v = check_lengths10(v, lines10.len(), pixels.len());
-    let v = accept::check_name(v, block1, block5, block7);
-    let v = check_room(v, lines8.len(), lines9.len(), lines10.len(), n);
-    rules::placeless(v)
+    rules::placeless(check_placed(h, e, n))
 }
 
 // Writes a header, or says why not and leaves every byte as it was.
+#[tactic(auto, using(crate::proofs::Written::writing))]
 pub fn write(
     out: &mut [u8],
     h: Header,
@@ -304,20 +180,22 @@ pub fn write(
     times: &[u64],
     lines10: &[u16],
     pixels: &[u16],
-) -> Verdict
+) -> Result<(), Refusal>
     ensures { Wrote out.old h
         (entries_from lines8.now column_shifts.now line_shifts.now lines9.now
         times.now lines10.now pixels.now)
         result out.new }
 {
-    let xs = column_shifts;
-    let ys = line_shifts;
-    let v = check_given(h, lines8, xs, ys, lines9, times, lines10, pixels, out.len());
-    match v {
-        Verdict::Refused(t) => Verdict::Refused(t),
-        Verdict::Fine => {
-            write_all(out, h, lines8, xs, ys, lines9, times, lines10, pixels);
-            Verdict::Fine
-        }
-    }
+    let e = Lent {
+        lines8,
+        column_shifts,
+        line_shifts,
+        lines9,
+        times,
+        lines10,
+        pixels,
+    };
+    check_given(h, e, out.len())?;
+    write_all(out, h, e);
+    Ok(())
 }

@@ -7,4 +7,4 @@ use Rattle.writer.proofs.write_all.Goals as goal
 pub returns : goal.returns
 unfolding encode blocks_of
 returns c =
-    both _ _ _ (omega arith) (rw (c.header_length.ensures, c.data_length-counts.ensures) at c.write_front.ensures) c.write_back.ensures
+    both _ _ _ (omega arith) (rw (c.header_length-front.ensures, c.data_length-counts.ensures) at c.write_front.ensures) c.write_back.ensures
