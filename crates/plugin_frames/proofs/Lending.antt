@@ -1,24 +1,24 @@
 -- Laws of lent marks and lent lines.
 -- Assumes nothing.
-use Rattle.std.proofs.Common.{◌≡◌, refl, sym, ap, ◌∙◌, Bool, true, false, ◌&&◌, List, [], ◌∷◌, ◌++◌, append_assoc, append-nil, ℕ, zero, suc, ◌+◌, ◌-◌, ◌<◌, ◌≤◌, le_trans, add-one, arith, eqb-true, le-leb, ltb-false, eqb, leb, ltb, length, get_or, drop, set, length-append, drop_of_length-le, drop-cons}
-use Rattle.std.proofs.Math.Bool.{false≢true, and-eq-true_iff}
-use Rattle.std.proofs.Math.ListN.{get_or-eq_default}
-use Rattle.std.proofs.Math.Seq.{set_at}
-use Rattle.wire.specs.Wire.{tab}
+use Rattle.std.proofs.Common.{◌≡◌, refl, sym, ap, ◌∙◌, Bool, true, false, ◌&&◌, List, [], ◌∷◌, ◌++◌, append-nil, ℕ, zero, suc, ◌+◌, ◌-◌, ◌<◌, ◌≤◌, add-one, arith, eqb-true, le-leb, eqb, leb, length, get_or, length-append}
+use Rattle.std.proofs.Math.Bool.{and-eq-true_iff}
+use Rattle.std.proofs.Math.Seq.{get_or_at, ext_get_or}
+use mathlib.Core.Logic.{⊎_elim}
+use native.Mathlib.Nat.{le_of_suc-le-suc, eq-or-lt_of_le}
+use lib.ListN.{get_or-append}
 use Rattle.wire.proofs.Rows.{tab_is}
-use Rattle.frame.specs.Records.{pass, no_marks, none_above}
-use Rattle.frame.proofs.Marking.{pass_hit, pass_miss, pass_end, pass_all}
-use Rattle.rules.specs.Rules.{Row, row, Turned, turned, fine, Ruling, refused, tables, judge, checked, after, refuses, reply}
-use Rattle.rules.proofs.Judge.{exactly, each_is, tried, table, last, judge_refused}
+use Rattle.frame.specs.Records.{pass, none_above, one_of}
+use Rattle.frame.proofs.Marking.{pass_hit, pass_miss, pass_end}
+use Rattle.rules.specs.Rules.{Row, row, Turned, turned, fine, Ruling, refused, tables, judge, checked, after, refuses}
+use Rattle.rules.proofs.Judge.{judge_append, judge_refused}
 use Rattle.accept.specs.Checks.{checks}
-use Rattle.slate.specs.declared.Slate.{Slate}
-use Rattle.slate.specs.Slates.{good_slate, slated, blank, frame_size, asking, reason_of}
+use Rattle.slate.specs.Slates.{good_slate, slated, frame_size, asking, reason_of}
 use Rattle.frame.specs.Frames.{opening, opened, open_frame, ready, placing, offering, offered, frame_after}
 use Rattle.frame.specs.Lines.{line_good, line_of}
 use Rattle.plugin_frames.specs.declared.HsdSlate.{HsdSlate}
-use Rattle.plugin_frames.specs.Strips.{slate_in, long_marks, is_bit, bits_from, good_marks, lent, flags, marks_in, slate_c, opened_c, open_strip, offered_c, offer_strip, line_c, copied_of, copy_of}
+use Rattle.plugin_frames.specs.Strips.{slate_in, long_marks, is_bit, bits_from, good_marks, lent, flags, marks_in, marks_out, slate_c, opened_c, open_strip, offered_c, offer_strip, line_c, copied_of, copy_of}
 
--- ---- the loop of `are_bits`
+-- ---- the loop of `good_marks`
 
 pub bits_more : (m : List ℕ) (k x : ℕ) → k < 99 → x ≡ get_or m k 0 → bits_from m k ≡ (leb x 1 && bits_from m (k + 1))
 unfolding bits_from
@@ -29,74 +29,47 @@ bits_more m k x h e = rw e (go (leb (get_or m k 0) 1) refl)
     go false q = pass_hit is_bit 0 m k h q
 
 -- past the end there is nothing that could be no mark
-pub bits_end : (m : List ℕ) (k : ℕ) → (ltb k 99 && ltb k (length m)) ≡ false → bits_from m k ≡ true
+pub bits_end : (m : List ℕ) (k : ℕ) → 99 ≤ k → bits_from m k ≡ true
 unfolding bits_from
-bits_end m k e = go (ltb k 99) (ltb k (length m)) refl refl e
-  where
-    go : (a b : Bool) → ltb k 99 ≡ a → ltb k (length m) ≡ b → (a && b) ≡ false → pass is_bit 0 m k (99 - k) ≡ true
-    go true true p q e = absurd (false≢true (sym e))
-    go true false p q e = pass_all is_bit 0 m k (99 - k) (λ i a b. rw (get_or-eq_default m 0 (le_trans (ltb-false k (length m) q) a)))
-    go false b p q e = pass_end is_bit 0 m k (ltb-false k 99 p)
+bits_end m k h = pass_end is_bit 0 m k h
 
--- ---- the loop of `record_of`
+-- ---- marks and their bytes, each by its place
 
 pub length_flags : (m : List ℕ) (n : ℕ) → length (flags m n) ≡ n
 unfolding flags
 length_flags m zero = refl
 length_flags m (suc n) = rw (length-append, length_flags m n, add-one)
 
-pub flags_turn : (m : List ℕ) (d : List Bool) {marks : List Bool} {k x : ℕ} → marks ≡ flags m k ++ drop k d → x ≡ get_or m k 0 → k < length d
-    → set marks k (eqb x 1) ≡ flags m (k + 1) ++ drop (k + 1) d
+pub flags_at : (m : List ℕ) (n k : ℕ) → k < n → get_or (flags m n) k false ≡ eqb (get_or m k 0) 1
 unfolding flags
-flags_turn m d {marks} {k} {x} e g h = rw (e, g, add-one, drop-cons d k false, set_at (flags m k) _ _ _ _ (length_flags m k), append_assoc)
+flags_at m zero k h = absurd (omega arith)
+flags_at m (suc n) k h =
+    ⊎_elim
+    (λ e. rw e (get_or_at (flags m n) _ [] false n (length_flags m n)))
+    (λ l. get_or-append (flags m n) _ false k (rw length_flags l) ∙ flags_at m n k l)
+    (eq-or-lt_of_le (le_of_suc-le-suc h))
 
-pub flags_all : (m : List ℕ) (marks : List Bool) (k : ℕ) → k ≡ 99 → marks ≡ flags m k ++ drop k no_marks → marks ≡ flags m 99
-flags_all m marks k e h = h ∙ rw (e, append-nil)
+-- what has each flag is the flags
+pub flags_from_each : (m : List ℕ) (marks : List Bool) → length marks ≡ 99 → ((k : ℕ) → k < 99 → get_or marks k false ≡ eqb (get_or m k 0) 1) → marks ≡ flags m 99
+flags_from_each m marks l e = ext_get_or false marks (flags m 99) (l ∙ sym (length_flags m 99)) (λ k h. let q : k < 99 = rw l at h in e k q ∙ sym (flags_at m 99 k q))
 
--- ---- the loops that fill from the front
-
-pub filled : (f : ℕ → ℕ) (n : ℕ) (d out : List ℕ) (k : ℕ) → k ≡ n → length d ≤ n → out ≡ tab f k ++ drop k d → out ≡ tab f n
-filled f n d out k e l h = h ∙ rw (e, drop_of_length-le d l, append-nil)
-
-pub front_all : (line d out : List ℕ) (i : ℕ) → i ≡ length line → out ≡ tab (λ k. get_or line k 0) i ++ drop i d → out ≡ line ++ drop (length line) d
-front_all line d out i e h = h ∙ rw (e, tab_is (λ k. get_or line k 0) (length line) line refl (λ k _. refl))
+pub marks_from_each : (marks : List Bool) (out : List ℕ) → length out ≡ 99 → ((k : ℕ) → k < 99 → get_or out k 0 ≡ one_of (get_or marks k false)) → out ≡ marks_out marks
+marks_from_each marks out l e = sym (tab_is _ 99 out l (λ k h. sym (e k h)))
 
 -- ---- marks and slate: both are good, or SLATE is said before anything else
 
 two : (xs ys : List Row) → judge fine (tables (xs ∷ ys ∷ [])) ≡ judge (judge fine xs) ys
-two xs ys = sym (tried (table refl (table refl last)))
+two xs ys = judge_append fine xs (ys ++ []) ∙ rw append-nil
 
 -- with marks that will do the rest of the checks answer
 pub lent_good : (ok : Bool) (rs : List Row) → ok ≡ true → judge fine (tables (lent ok ∷ rs ∷ [])) ≡ judge fine rs
-unfolding lent checked
+unfolding lent
 lent_good ok rs e = two (lent ok) rs ∙ rw e
-
-pub record Lent (s : HsdSlate) (ok : Bool) (made : Slate) : Type 0 where
-  pub marks : ok ≡ true
-  pub slate : slate_in s ≡ made
-
-pub lent_made : (s : HsdSlate) (ok : Bool) (made : Slate) → slate_c s ok ≡ fine → made ≡ after (judge fine (slated (slate_in s))) blank (slate_in s) → Lent s ok made
-unfolding lent slated after checked
-lent_made s ok made e m =
-    let rs = lent ok ∷ slated (slate_in s) ∷ [] in
-    let r = each_is rs ((exactly (tables rs)).0 e) in
-    record { marks = r.0.0; slate = sym (m ∙ rw r.1.0.0) }
 
 -- good marks are 99
 pub good_long : (m : List ℕ) → good_marks m ≡ true → length m ≡ 99
 unfolding good_marks
 good_long m g = eqb-true (length m) 99 ((and-eq-true_iff (long_marks m) (bits_from m 0)).0 g).0
-
--- whichever of the two comes first, SLATE is what is said
-pub slate_marked : (s : HsdSlate) (ok : Bool) → checked (judge fine (slated (slate_in s))) ok (turned 13 0 0) ≡ slate_c s ok
-unfolding lent slated checked
-slate_marked s ok = go ok (good_slate (slate_in s)) ∙ sym (two (lent ok) (slated (slate_in s)))
-  where
-    go : (x y : Bool) → checked (checked fine y (turned 13 0 0)) x (turned 13 0 0) ≡ checked (checked fine x (turned 13 0 0)) y (turned 13 0 0)
-    go true true = refl
-    go true false = refl
-    go false true = refl
-    go false false = refl
 
 module _ (s : HsdSlate) (ok : Bool) (t : Turned) (e : slate_c s ok ≡ refused t) where
   first : checked (checked fine ok (turned 13 0 0)) (good_slate (slate_in s)) (turned 13 0 0) ≡ refused t
@@ -114,11 +87,11 @@ module _ (s : HsdSlate) (m : List ℕ) (t : Turned) where
   lent_opened e size = lent_refused s (long_marks m) t e _
 
   pub lent_offered : slate_c s (good_marks m) ≡ refused t → (size : ℕ) (f : List ℕ) → offered_c s m size f ≡ refused t
-  unfolding offering ready slated tables
+  unfolding offering ready slated
   lent_offered e size f = lent_refused s (good_marks m) t e (row (none_above s.total (marks_in m)) 13 0 0 ∷ row (eqb size (frame_size (slate_in s))) 14 0 0 ∷ (checks f ++ (placing (slate_in s) (marks_in m) f ++ [])))
 
   pub lent_line : slate_c s (good_marks m) ≡ refused t → (frame leader : List ℕ) (n : ℕ) → line_c s m frame leader n ≡ []
-  unfolding line_c line_of line_good checked
+  unfolding line_c line_of line_good
   lent_line e frame leader n = go (good_marks m) (good_slate (slate_in s)) refl refl (first s (good_marks m) t e)
     where
       go : (g h : Bool) → good_marks m ≡ g → good_slate (slate_in s) ≡ h → checked (checked fine g (turned 13 0 0)) h (turned 13 0 0) ≡ refused t → line_c s m frame leader n ≡ []
@@ -128,7 +101,7 @@ module _ (s : HsdSlate) (m : List ℕ) (t : Turned) where
 
 -- a bad slate is told before the file is looked at
 pub lent_why : (s : HsdSlate) (t : Turned) → slate_c s true ≡ refused t → (f : List ℕ) → reason_of (slate_in s) f ≡ refuses t
-unfolding asking reason_of reply tables
+unfolding asking reason_of
 lent_why s t e f = rw (sym (lent_good true (slated (slate_in s) ++ (checks f ++ [])) refl) ∙ lent_refused s true t e (checks f ++ []))
 
 -- ---- what a refusal leaves is left
@@ -152,9 +125,9 @@ offer_strip_lem s m g frame f =
 
 -- ---- a line
 
-pub lent_asked : (s : HsdSlate) (m : List ℕ) (made : Slate) → Lent s (good_marks m) made → (frame leader : List ℕ) (n : ℕ) → line_of made (marks_in m) frame leader n ≡ line_c s m frame leader n
+pub lent_asked : (s : HsdSlate) (m : List ℕ) → good_marks m ≡ true → (frame leader : List ℕ) (n : ℕ) → line_of (slate_in s) (marks_in m) frame leader n ≡ line_c s m frame leader n
 unfolding line_c
-lent_asked s m made g frame leader n = rw (g.marks, ← g.slate)
+lent_asked s m g frame leader n = rw g
 
 -- of an empty line nothing is copied
 pub none_copied : (out : List ℕ) → (0 ≡ copied_of [] out) × (out ≡ copy_of [] out)

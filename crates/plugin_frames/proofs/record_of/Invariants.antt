@@ -1,10 +1,5 @@
-use Rattle.std.proofs.Common.{◌≡◌, ◌++◌, ◌-◌, ◌≤◌, drop}
-use Rattle.frame.specs.Records.{no_marks}
-use Rattle.plugin_frames.specs.Strips.{flags}
+use Rattle.std.proofs.Common.{◌≡◌, ℕ, ◌<◌, false, get_or, eqb}
 use Rattle.plugin_frames.proofs.record_of.Given as goal
 
 abbrev pub invariant-loop-k : goal.invariant-loop-k
-invariant-loop-k l = (l.rec.marks ≡ flags l.marks l.k ++ drop l.k no_marks) × (l.k ≤ 99)
-
-abbrev pub decreases-loop-k : goal.decreases-loop-k
-decreases-loop-k l = 99 - l.k
+invariant-loop-k l = (j : ℕ) → j < l.k → get_or l.mark-items j false ≡ eqb (get_or l.marks j 0) 1
