@@ -6,7 +6,7 @@ use std::fmt;
 
 #[derive(Clone, Copy)]
 pub enum Change {
-    // Of the plan by which the file is made: what follows from these is made to agree.
+    // Of the plan that the file is made by, so that all that follows from it agrees.
     Satellite(u8),
     Date(u32),
     Timeline(u16),
@@ -23,7 +23,7 @@ pub enum Change {
     Entries10(u16),
     // what every byte holds that no rule speaks of
     Fill(u8),
-    // Of the file that was made: nothing follows from these.
+    // Of the file that was made, where nothing else follows: a field is set to a number, or to letters.
     Set(Field, u32),
     Letters(Field, &'static str),
     // how many bytes the file has, fewer or more than before

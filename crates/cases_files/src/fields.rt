@@ -53,18 +53,16 @@ impl Field {
     pub fn set(self, out: &mut [u8], plan: &Plan, n: u32) {
         let at = self.at(plan);
         let order = plan.order;
-        match self.layout().3 {
+        let (_, _, _, form) = self.layout();
+        match form {
             U8 => wire::put_byte(out, at, (n % 256) as u8),
             U16 => wire::put_number(out, at, (n % 65536) as u16, order),
             U32 => wire::put_number(out, at, n, order),
             UpperHalf => wire::put_number(out, at, u64::from(n) << 32, order),
             Digits(width) => {
                 let digits = format::decimal::<8>(n);
-                wire::put(
-                    out,
-                    at,
-                    wire::rest(&digits, digits.len().saturating_sub(width)),
-                );
+                let text = wire::rest(&digits, digits.len().saturating_sub(width));
+                wire::put(out, at, text);
             }
         }
     }
