@@ -5,6 +5,7 @@ mod counts;
 mod dates;
 mod quality;
 mod shots;
+mod told;
 
 use std::io;
 

@@ -5,7 +5,8 @@ ghost use Rattle.std.specs.Io.{ReadsAtMost};
 use std::io;
 use std::io::Read;
 
-// Reads until a buffer is full or the input ends, and answers how many bytes that put at the buffer's start.
+// Reads until a buffer is full or the input ends, and answers how many bytes that put at the buffer's start. The loop is by hand: `read_to_end`
+// reads into the heap, and what `read_exact` reads before an early end it does not tell.
 fn read_full(input: &mut impl Read, buf: &mut [u8]) -> io::Result<usize>
     ensures { ReadsAtMost result buf.new }
 {
@@ -21,6 +22,7 @@ fn read_full(input: &mut impl Read, buf: &mut [u8]) -> io::Result<usize>
 }
 
 // Writes the line of what was read.
+#[tactic(auto, using(listing::proofs::Words::within))]
 fn list(rt: &impl Print, file: &[u8]) -> io::Result<()> {
     let mut out = [0u8; 64];
     let n = listing::line(file, &mut out);
