@@ -4,33 +4,24 @@
 // (beyond 65,536 counts as that), 4 bytes each, and the image. Its answer: what reader::read, read_shifts, read_times, read_errors and the writer say,
 // a refusal's number and block, a byte each, and its offset, 4 bytes, or zeros for none; and the output.
 // Where a reader refuses, the writer is given what the image states, read as a file would have it.
-mod entries;
-mod raw;
+mod lists;
 mod serve;
 
+use lists::{LONG, Lists};
 use std::io;
 
 // The image, the output and the entries have their places here, and are lent to every request.
 fn main(rt: HostRuntime) -> io::Result<()> {
-    let mut image = [0u8; 65536];
-    let mut out = [0u8; 400000];
-    let mut lines8 = [0u16; 65536];
-    let mut xs = [0u32; 65536];
-    let mut ys = [0u32; 65536];
-    let mut lines9 = [0u16; 65536];
-    let mut times = [0u64; 65536];
-    let mut lines10 = [0u16; 65536];
-    let mut pixels = [0u16; 65536];
-    serve::run(
-        &rt,
-        &mut image,
-        &mut out,
-        &mut lines8,
-        &mut xs,
-        &mut ys,
-        &mut lines9,
-        &mut times,
-        &mut lines10,
-        &mut pixels,
-    )
+    let mut image = [0; 65536];
+    let mut out = [0; 400000];
+    let mut lists = Lists {
+        lines8: [0; LONG],
+        column_shifts: [0; LONG],
+        line_shifts: [0; LONG],
+        lines9: [0; LONG],
+        times: [0; LONG],
+        lines10: [0; LONG],
+        pixels: [0; LONG],
+    };
+    serve::run(&rt, &mut image, &mut out, &mut lists)
 }
