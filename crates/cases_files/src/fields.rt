@@ -52,13 +52,12 @@ impl Field {
     // Sets it to a number in the file of a plan.
     pub fn set(self, out: &mut [u8], plan: &Plan, n: u32) {
         let at = self.at(plan);
-        let order = plan.order;
         let (_, _, _, form) = self.layout();
         match form {
             U8 => wire::put_byte(out, at, (n % 256) as u8),
-            U16 => wire::put_number(out, at, (n % 65536) as u16, order),
-            U32 => wire::put_number(out, at, n, order),
-            UpperHalf => wire::put_number(out, at, u64::from(n) << 32, order),
+            U16 => wire::put_number(out, at, (n % 65536) as u16, plan.order),
+            U32 => wire::put_number(out, at, n, plan.order),
+            UpperHalf => wire::put_number(out, at, u64::from(n) << 32, plan.order),
             Digits(width) => {
                 let digits = format::decimal::<8>(n);
                 let text = wire::rest(&digits, digits.len().saturating_sub(width));
@@ -83,7 +82,8 @@ impl fmt::Display for Field {
     }
 }
 
-// Where a block starts in the file of a plan, by the entries of those before it.
+// Where a block starts in the file of a plan, by the entries of those before it: a match on the block's number and no table, since three of the
+// places follow from the plan.
 fn start(block: u8, plan: &Plan) -> usize
     ensures { result < 2000000 }
 {
