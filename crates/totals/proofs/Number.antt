@@ -3,13 +3,13 @@
 use mathlib.Core.Path.{◌≡◌, refl, ap, ◌∙◌}
 use mathlib.Core.Bool.{Bool, true, false, cond}
 use mathlib.Core.List.{List, [], ◌∷◌, ◌++◌}
-use Prim.Native.Nat.{ℕ, zero, suc, ◌+◌, ◌*◌, ◌-◌, ◌/◌, ◌<◌, ◌≤◌}
+use Prim.Native.Nat.{ℕ, zero, suc, ◌+◌, ◌*◌, ◌-◌, ◌/◌, ◌%◌, ◌<◌, ◌≤◌}
 use native.Mathlib.Nat.{not-suc-le-zero, le_of_suc-le-suc}
 use native.Mathlib.Numerals.{add-one}
 use native.Mathlib.Omega.{arith}
 use lib.Dec.{eqb}
-use lib.ListN.{length, take, drop, get_or, length-drop}
-use lib.Seq.{length-take-le, drop-nil, take-add}
+use lib.ListN.{length, take, get_or}
+use lib.Seq.{take_all}
 use Rattle.wire.specs.Wire.{num, low}
 use Rattle.frame.specs.Counts.{counts}
 use Rattle.totals.specs.Kinds.{number}
@@ -44,10 +44,6 @@ module _ (p : ℕ → Bool) where
   number_append [] ys = omega arith
   number_append (x ∷ xs) ys = let e = number_append xs ys in omega arith
 
-  -- a piece more
-  pub number_piece : (i m : ℕ) (xs : List ℕ) → number p (take (i + m) xs) ≡ number p (take i xs) + number p (take m (drop i xs))
-  number_piece i m xs = ap (number p) (take-add i m xs) ∙ number_append (take i xs) (take m (drop i xs))
-
 -- every number is one of 16 bits
 abbrev pub Small : List ℕ → Type 0
 Small xs = (k : ℕ) → get_or xs k 0 < 65536
@@ -79,25 +75,21 @@ small o (a ∷ []) h k = omega arith
 small o (a ∷ b ∷ r) h zero = pair o a b (h 0) (h 1)
 small o (a ∷ b ∷ r) h (suc k) = small o r (λ j. h (suc (suc j))) k
 
-drop_counts : (o i : ℕ) (s : List ℕ) → counts o (drop (i * 2) s) ≡ drop i (counts o s)
-drop_counts o zero s = refl
-drop_counts o (suc i) [] = let e : suc i * 2 ≡ suc (suc (i * 2)) = omega arith in rw e
-drop_counts o (suc i) (a ∷ []) = let e : suc i * 2 ≡ suc (suc (i * 2)) = omega arith in rw (e, drop-nil (suc (i * 2)))
-drop_counts o (suc i) (a ∷ b ∷ r) = let e : suc i * 2 ≡ suc (suc (i * 2)) = omega arith in rw e (drop_counts o i r)
-
 take_counts : (o m : ℕ) (s : List ℕ) → counts o (take (m * 2) s) ≡ take m (counts o s)
 take_counts o zero s = refl
 take_counts o (suc m) [] = let e : suc m * 2 ≡ suc (suc (m * 2)) = omega arith in rw e
 take_counts o (suc m) (a ∷ []) = let e : suc m * 2 ≡ suc (suc (m * 2)) = omega arith in rw e
 take_counts o (suc m) (a ∷ b ∷ r) = let e : suc m * 2 ≡ suc (suc (m * 2)) = omega arith in rw e (ap (λ (t : List ℕ). num o (a ∷ b ∷ []) ∷ t) (take_counts o m r))
 
--- the counts of a piece of bytes
-piece_counts : (o i m : ℕ) (s : List ℕ) → counts o (take (m * 2) (drop (i * 2) s)) ≡ take m (drop i (counts o s))
-piece_counts o i m s = take_counts o m (drop (i * 2) s) ∙ ap (take m) (drop_counts o i s)
+-- a last byte without a second holds no count
+pub take_whole : (o : ℕ) (s : List ℕ) → counts o (take (length s / 2 * 2) s) ≡ counts o s
+take_whole o s = take_counts o (length s / 2) s ∙ take_all (length s / 2) (counts o s) (omega (arith, counts_half o s))
 
--- the same as a loop lends it
-pub piece_long : (i m : ℕ) (s : List ℕ) → i + m ≤ length s / 2 → length (take (i * 2 + m * 2 - i * 2) (drop (i * 2) s)) ≡ m * 2
-piece_long i m s h = length-take-le (i * 2 + m * 2 - i * 2) (drop (i * 2) s) (rw length-drop (omega arith)) ∙ omega arith
+-- of bytes in two parts
+counts_append : (o : ℕ) (s t : List ℕ) → length s % 2 ≡ 0 → counts o (s ++ t) ≡ counts o s ++ counts o t
+counts_append o [] t h = refl
+counts_append o (a ∷ []) t h = absurd (omega arith)
+counts_append o (a ∷ b ∷ r) t h = ap (λ (t : List ℕ). num o (a ∷ b ∷ []) ∷ t) (counts_append o r t (omega arith))
 
-pub piece_lent : (o i m : ℕ) (s : List ℕ) → counts o (take (i * 2 + m * 2 - i * 2) (drop (i * 2) s)) ≡ take m (drop i (counts o s))
-piece_lent o i m s = let e : i * 2 + m * 2 - i * 2 ≡ m * 2 = omega arith in rw e (piece_counts o i m s)
+pub number_counts : (p : ℕ → Bool) (o : ℕ) (s t : List ℕ) → length s % 2 ≡ 0 → number p (counts o (s ++ t)) ≡ number p (counts o s) + number p (counts o t)
+number_counts p o s t h = ap (number p) (counts_append o s t h) ∙ number_append p (counts o s) (counts o t)

@@ -1,23 +1,28 @@
 -- Laws for counting without a float for each count.
 -- Assumes nothing.
-use mathlib.Core.Path.{◌≡◌, refl, sym, ◌∙◌}
+use mathlib.Core.Path.{◌≡◌, refl, sym, ap, ◌∙◌}
 use mathlib.Core.Bool.{Bool, true, false, not, cond, ◌&&◌, and-false, false≢true}
-use mathlib.Core.List.{List, [], ◌∷◌}
-use Prim.Native.Nat.{ℕ, ◌+◌, ◌^◌, ◌<◌, ◌≤◌}
+use mathlib.Core.List.{List, [], ◌∷◌, ◌++◌}
+use Prim.Native.Nat.{ℕ, ◌+◌, ◌*◌, ◌/◌, ◌%◌, ◌^◌, ◌<◌, ◌≤◌}
+use native.Mathlib.Nat.{zero-add}
 use native.Mathlib.Omega.{arith}
 use borrow.Author.Tests.{eqb-true, eqb-false, le-leb, leb-true, leb-false, lt-ltb, le-ltb}
 use lib.Dec.{eqb, leb, ltb}
 use lib.Ieee.{Float, nan, inf, fin}
 use lib.ListN.{length, take, drop, get_or}
 use lib.Seq.{take_all}
+use Rattle.std.specs.Int.{from_bool}
 use Rattle.reading.specs.declared.Reading.{Reading}
 use Rattle.reading.specs.declared.Reading.TheVariants.{ErrorPixel, Outside, OverRange}
 use Rattle.reading.specs.declared.Calibration.{Calibration}
 use Rattle.reading.specs.Counts.{reading_of, if_finite, scaled}
+use Rattle.wire.specs.Wire.{num}
 use Rattle.frame.specs.Counts.{counts}
+use Rattle.frame.proofs.Copying.{counts_at}
+use Rattle.totals.specs.declared.Totals.{Totals}
 use Rattle.totals.specs.Kinds.{is_radiance, is_error, is_outside, is_over, is_uncalibrated, number, count_readings}
-use Rattle.totals.specs.Counting.{Totalled, Limit, Fine, test_error, test_outside, test_over, test_below, Sorted}
-use Rattle.totals.proofs.Number.{number_none, number_piece, number_same, Small, small}
+use Rattle.totals.specs.Counting.{Totalled, Limit, Fine, test_error, test_outside, test_over, test_below, Sorted, with_one}
+use Rattle.totals.proofs.Number.{number_none, number_step, number_same, Small, small, counts_half, take_whole, number_counts}
 
 abbrev shape : Bool → Bool → Bool → Float → Reading
 shape a b c v = cond a ErrorPixel (cond b Outside (cond c OverRange (if_finite v)))
@@ -153,23 +158,78 @@ all_five cal limit o s e u v b l h f t =
 -- ---- the loops
 
 -- nothing is counted yet
-pub sorted_none : (limit : ℕ) (cs : List ℕ) → Sorted limit (take 0 cs) 0 0 0 0
-sorted_none limit cs = record { error_count = sym (number_none _ cs); outside_count = sym (number_none _ cs); over_count = sym (number_none _ cs); below_count = sym (number_none _ cs) }
+pub sorted_none : (limit : ℕ) → Sorted limit [] 0 0 0 0
+sorted_none limit = record { error_count = sym (number_none _ []); outside_count = sym (number_none _ []); over_count = sym (number_none _ []); below_count = sym (number_none _ []) }
+
+one : (b : Bool) → from_bool b ≡ cond b 1 0
+one true = refl
+one false = refl
+
+-- a count more
+pub sorted_next : (limit i : ℕ) (cs : List ℕ) {e u v b e' u' v' b' : ℕ} → i < length cs → Sorted limit (take i cs) e u v b
+    → let x = get_or cs i 0 in e' ≡ from_bool (test_error x) → u' ≡ from_bool (test_outside x) → v' ≡ from_bool (test_over limit x) → b' ≡ from_bool (test_below limit x)
+    → Sorted limit (take (i + 1) cs) (e + e') (u + u') (v + v') (b + b')
+sorted_next limit i cs h s e u v b = record {
+  error_count = number_step _ i _ cs _ _ h refl s.error_count (e ∙ one _);
+  outside_count = number_step _ i _ cs _ _ h refl s.outside_count (u ∙ one _);
+  over_count = number_step _ i _ cs _ _ h refl s.over_count (v ∙ one _);
+  below_count = number_step _ i _ cs _ _ h refl s.below_count (b ∙ one _);
+}
 
 pub sorted_all : (limit i : ℕ) (cs : List ℕ) {e u v b : ℕ} → length cs ≤ i → Sorted limit (take i cs) e u v b → Sorted limit cs e u v b
 sorted_all limit i cs h t = (rw (take_all i cs h) at t)
 
+-- what is found of some bytes before the rest, which are to be counted
+pub record Rest (limit o : ℕ) (s rest : List ℕ) (error outside over below : ℕ) : Type 0 where
+  pub error_rest : error + number test_error (counts o rest) ≡ number test_error (counts o s)
+  pub outside_rest : outside + number test_outside (counts o rest) ≡ number test_outside (counts o s)
+  pub over_rest : over + number (test_over limit) (counts o rest) ≡ number (test_over limit) (counts o s)
+  pub below_rest : below + number (test_below limit) (counts o rest) ≡ number (test_below limit) (counts o s)
+
+pub rest_begun : (limit o : ℕ) (s rest : List ℕ) → rest ≡ take (length s / 2 * 2) s → Rest limit o s rest 0 0 0 0
+rest_begun limit o s rest e =
+    let q = ap (counts o) e ∙ take_whole o s in
+    record { error_rest = simp zero-add (rw q); outside_rest = simp zero-add (rw q); over_rest = simp zero-add (rw q); below_rest = simp zero-add (rw q) }
+
 -- a piece more
-pub sorted_piece : (limit i m : ℕ) (cs : List ℕ) {e u v b e' u' v' b' : ℕ} → Sorted limit (take i cs) e u v b → Sorted limit (take m (drop i cs)) e' u' v' b' → Sorted limit (take (i + m) cs) (e + e') (u + u') (v + v') (b + b')
-sorted_piece limit i m cs s t = record {
-  error_count = rw (s.error_count, t.error_count) (sym (number_piece _ i m cs));
-  outside_count = rw (s.outside_count, t.outside_count) (sym (number_piece _ i m cs));
-  over_count = rw (s.over_count, t.over_count) (sym (number_piece _ i m cs));
-  below_count = rw (s.below_count, t.below_count) (sym (number_piece _ i m cs));
+pub rest_next : (limit o : ℕ) (s rest piece more : List ℕ) {e u v b e' u' v' b' : ℕ} → length piece % 2 ≡ 0 → rest ≡ piece ++ more → Sorted limit (counts o piece) e' u' v' b' → Rest limit o s rest e u v b
+    → Rest limit o s more (e + e') (u + u') (v + v') (b + b')
+rest_next limit o s rest piece more {e} {u} {v} {b} {e'} {u'} {v'} {b'} even parts t r = record {
+  error_rest = step test_error e _ t.error_count r.error_rest;
+  outside_rest = step test_outside u _ t.outside_count r.outside_rest;
+  over_rest = step (test_over limit) v _ t.over_count r.over_rest;
+  below_rest = step (test_below limit) b _ t.below_count r.below_rest;
 }
+  where
+    step : (p : ℕ → Bool) (n n' : ℕ) → n' ≡ number p (counts o piece) → n + number p (counts o rest) ≡ number p (counts o s) → n + n' + number p (counts o more) ≡ number p (counts o s)
+    step p n n' a c = let q = ap (λ (x : List ℕ). number p (counts o x)) parts ∙ number_counts p o piece more even in omega arith
 
-pub totalled_none : (cal : Calibration) (cs : List ℕ) → Totalled cal (take 0 cs) 0 0 0 0 0
-totalled_none cal cs = record { radiance_count = sym (number_none _ cs); error_count = sym (number_none _ cs); outside_count = sym (number_none _ cs); over_count = sym (number_none _ cs); uncalibrated_count = sym (number_none _ cs) }
+pub rest_done : (limit o : ℕ) (s rest : List ℕ) {e u v b : ℕ} → length rest ≡ 0 → Rest limit o s rest e u v b → Sorted limit (counts o s) e u v b
+rest_done limit o s [] {e} {u} {v} {b} h r = record { error_count = done test_error e r.error_rest; outside_count = done test_outside u r.outside_rest; over_count = done (test_over limit) v r.over_rest; below_count = done (test_below limit) b r.below_rest }
+  where
+    done : (p : ℕ → Bool) (n : ℕ) → n + number p [] ≡ number p (counts o s) → n ≡ number p (counts o s)
+    done p n c = omega (arith, number_none p [])
+rest_done limit o s (x ∷ rest) h r = absurd (omega arith)
 
-pub totalled_all : (cal : Calibration) (i : ℕ) (cs : List ℕ) {a b c d e : ℕ} → length cs ≤ i → Totalled cal (take i cs) a b c d e → Totalled cal cs a b c d e
-totalled_all cal i cs h t = (rw (take_all i cs h) at t)
+pub ruleset resting = (rest_begun, rest_next, rest_done)
+
+pub totalled_none : (cal : Calibration) → Totalled cal [] 0 0 0 0 0
+totalled_none cal = record { radiance_count = sym (number_none _ []); error_count = sym (number_none _ []); outside_count = sym (number_none _ []); over_count = sym (number_none _ []); uncalibrated_count = sym (number_none _ []) }
+
+-- a count more
+pub totalled_next : (cal : Calibration) (o i : ℕ) (s : List ℕ) (t : Totals) → i < length s / 2 → Totalled cal (take i (counts o s)) t.radiance t.error t.outside t.over t.uncalibrated
+    → let x = num o (get_or s (i * 2) 0 ∷ get_or s (i * 2 + 1) 0 ∷ []) in let n = with_one t (reading_of cal x) in Totalled cal (take (i + 1) (counts o s)) n.radiance n.error n.outside n.over n.uncalibrated
+totalled_next cal o i s t h k =
+    let cs = counts o s in
+    let l : i < length cs = omega (arith, counts_half o s) in
+    let e = sym (counts_at o s i (omega arith)) in
+    record {
+      radiance_count = number_step _ i _ cs _ _ l e k.radiance_count refl;
+      error_count = number_step _ i _ cs _ _ l e k.error_count refl;
+      outside_count = number_step _ i _ cs _ _ l e k.outside_count refl;
+      over_count = number_step _ i _ cs _ _ l e k.over_count refl;
+      uncalibrated_count = number_step _ i _ cs _ _ l e k.uncalibrated_count refl;
+    }
+
+pub totalled_all : (cal : Calibration) (o i : ℕ) (s : List ℕ) {a b c d e : ℕ} → length s / 2 ≤ i → Totalled cal (take i (counts o s)) a b c d e → Totalled cal (counts o s) a b c d e
+totalled_all cal o i s h t = (rw (take_all i (counts o s) (omega (arith, counts_half o s))) at t)

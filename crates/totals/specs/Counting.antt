@@ -1,7 +1,9 @@
 -- What the counting loops say of a list of counts.
-use Rattle.std.specs.Prelude.{ℕ, ◌^◌, ◌≤◌, ◌<◌, Bool, false, ◌&&◌, List, ◌≡◌, eqb, leb, ltb}
+use Rattle.std.specs.Prelude.{ℕ, ◌+◌, ◌^◌, ◌≤◌, ◌<◌, Bool, false, cond, ◌&&◌, List, ◌≡◌, eqb, leb, ltb}
+use Rattle.reading.specs.declared.Reading.{Reading}
 use Rattle.reading.specs.declared.Calibration.{Calibration}
 use Rattle.reading.specs.Counts.{reading_of}
+use Rattle.totals.specs.declared.Totals.{Totals}
 use Rattle.totals.specs.Kinds.{is_radiance, is_error, is_outside, is_over, is_uncalibrated, number, count_readings}
 
 -- the five totals of a list of counts, each by its own rule
@@ -11,6 +13,20 @@ pub record Totalled (cal : Calibration) (cs : List ℕ) (radiance error outside 
   pub outside_count : outside ≡ count_readings is_outside cal cs
   pub over_count : over ≡ count_readings is_over cal cs
   pub uncalibrated_count : uncalibrated ≡ count_readings is_uncalibrated cal cs
+
+-- no total is the largest number
+abbrev pub Roomy : Totals → Type 0
+Roomy t = (t.radiance < 2 ^ 63) × (t.error < 2 ^ 63) × (t.outside < 2 ^ 63) × (t.over < 2 ^ 63) × (t.uncalibrated < 2 ^ 63)
+
+-- the totals with one reading more
+abbrev pub with_one : Totals → Reading → Totals
+with_one t r = record {
+  radiance = t.radiance + cond (is_radiance r) 1 0;
+  error = t.error + cond (is_error r) 1 0;
+  outside = t.outside + cond (is_outside r) 1 0;
+  over = t.over + cond (is_over r) 1 0;
+  uncalibrated = t.uncalibrated + cond (is_uncalibrated r) 1 0;
+}
 
 -- ---- without a float for each count
 

@@ -1,15 +1,14 @@
-use Prim.Native.Nat.{◌-◌, ◌/◌, ◌≤◌}
-use mathlib.Core.Path.{◌≡◌}
-use lib.ListN.{length, take}
+use Rattle.std.proofs.Common.{◌≤◌, take}
 use Rattle.frame.specs.Counts.{counts}
 use Rattle.totals.specs.Counting.{Totalled}
 use Rattle.totals.proofs.read_all.Given as goal
 
 abbrev pub invariant-loop-i : goal.invariant-loop-i
-invariant-loop-i l =
-    (l.i ≤ l.n) × (l.n ≡ length l.src / 2) × Totalled l.cal (take l.i (counts l.order l.src)) l.radiance l.error l.outside l.over l.uncalibrated
-    × (l.radiance ≤ l.i) × (l.error ≤ l.i) × (l.outside ≤ l.i) × (l.over ≤ l.i) × (l.uncalibrated ≤ l.i)
-
-abbrev pub decreases-loop-i : goal.decreases-loop-i
-decreases-loop-i l =
-    l.n - l.i
+invariant-loop-i l = record {
+  so_far : Totalled l.cal (take l.i (counts l.order l.src)) l.totals.radiance l.totals.error l.totals.outside l.totals.over l.totals.uncalibrated;
+  radiance_fits : l.totals.radiance ≤ l.i;
+  error_fits : l.totals.error ≤ l.i;
+  outside_fits : l.totals.outside ≤ l.i;
+  over_fits : l.totals.over ≤ l.i;
+  uncalibrated_fits : l.totals.uncalibrated ≤ l.i;
+}

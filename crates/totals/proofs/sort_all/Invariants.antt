@@ -1,13 +1,16 @@
-use Prim.Native.Nat.{◌-◌, ◌/◌, ◌≤◌}
-use mathlib.Core.Path.{◌≡◌}
-use lib.ListN.{length, take}
+use Rattle.std.proofs.Common.{◌≡◌, ◌+◌, ◌%◌, ◌≤◌, length}
+use Rattle.std.specs.Slice.Iter.{chunks_rest, chunks_size}
 use Rattle.frame.specs.Counts.{counts}
-use Rattle.totals.specs.Counting.{Sorted}
+use Rattle.totals.proofs.Plain.{Rest}
 use Rattle.totals.proofs.sort_all.Given as goal
 
-abbrev pub invariant-loop-at : goal.invariant-loop-at
-invariant-loop-at l =
-    (l.at ≤ l.n) × (l.n ≡ length l.src / 2) × Sorted l.limit (take l.at (counts l.order l.src)) l.error l.outside l.over l.below × (l.error ≤ l.at) × (l.outside ≤ l.at) × (l.over ≤ l.at) × (l.below ≤ l.at) × (length l.buffer ≡ 256)
-
-abbrev pub decreases-loop-at : goal.decreases-loop-at
-decreases-loop-at l = l.n - l.at
+abbrev pub invariant-loop-piece : goal.invariant-loop-piece
+invariant-loop-piece l = record {
+  so_far : Rest l.limit l.order l.src (chunks_rest l.piece-iterator) l.sum.error l.sum.outside l.sum.over l.sum.below;
+  size : chunks_size l.piece-iterator ≡ 512;
+  even : length (chunks_rest l.piece-iterator) % 2 ≡ 0;
+  error_fits : l.sum.error + length (chunks_rest l.piece-iterator) ≤ length l.src;
+  outside_fits : l.sum.outside + length (chunks_rest l.piece-iterator) ≤ length l.src;
+  over_fits : l.sum.over + length (chunks_rest l.piece-iterator) ≤ length l.src;
+  below_fits : l.sum.below + length (chunks_rest l.piece-iterator) ≤ length l.src;
+}

@@ -1,10 +1,12 @@
-use Prim.Native.Nat.{◌≤◌, ◌-◌}
-use lib.ListN.{length, take}
+use Rattle.std.proofs.Common.{◌≤◌, take}
 use Rattle.totals.specs.Counting.{Sorted}
 use Rattle.totals.proofs.sort_piece.Given as goal
 
-abbrev pub invariant-loop-i : goal.invariant-loop-i
-invariant-loop-i l = (l.i ≤ length l.xs) × Sorted l.limit (take l.i l.xs) l.error l.outside l.over l.below × (l.error ≤ l.i) × (l.outside ≤ l.i) × (l.over ≤ l.i) × (l.below ≤ l.i)
-
-abbrev pub decreases-loop-i : goal.decreases-loop-i
-decreases-loop-i l = length l.xs - l.i
+abbrev pub invariant-loop-x : goal.invariant-loop-x
+invariant-loop-x l = record {
+  so_far : Sorted l.limit (take l.x-index l.xs) l.error l.outside l.over l.below;
+  error_fits : l.error ≤ l.x-index;
+  outside_fits : l.outside ≤ l.x-index;
+  over_fits : l.over ≤ l.x-index;
+  below_fits : l.below ≤ l.x-index;
+}
