@@ -9,7 +9,7 @@ use native.Mathlib.Omega.{arith}
 use borrow.Author.Tests.{eqb-true, eqb-false, le-leb, leb-true, leb-false, lt-ltb, le-ltb}
 use lib.Dec.{eqb, leb, ltb}
 use lib.Ieee.{Float, nan, inf, fin}
-use lib.ListN.{length, take, drop, get_or}
+use lib.ListN.{length, take, get_or}
 use lib.Seq.{take_all}
 use Rattle.std.specs.Int.{from_bool}
 use Rattle.reading.specs.declared.Reading.{Reading}
@@ -176,9 +176,6 @@ sorted_next limit i cs h s e u v b = record {
   below_count = number_step _ i _ cs _ _ h refl s.below_count (b ∙ one _);
 }
 
-pub sorted_all : (limit i : ℕ) (cs : List ℕ) {e u v b : ℕ} → length cs ≤ i → Sorted limit (take i cs) e u v b → Sorted limit cs e u v b
-sorted_all limit i cs h t = (rw (take_all i cs h) at t)
-
 -- what is found of some bytes before the rest, which are to be counted
 pub record Rest (limit o : ℕ) (s rest : List ℕ) (error outside over below : ℕ) : Type 0 where
   pub error_rest : error + number test_error (counts o rest) ≡ number test_error (counts o s)
@@ -210,8 +207,6 @@ rest_done limit o s [] {e} {u} {v} {b} h r = record { error_count = done test_er
     done : (p : ℕ → Bool) (n : ℕ) → n + number p [] ≡ number p (counts o s) → n ≡ number p (counts o s)
     done p n c = omega (arith, number_none p [])
 rest_done limit o s (x ∷ rest) h r = absurd (omega arith)
-
-pub ruleset resting = (rest_begun, rest_next, rest_done)
 
 pub totalled_none : (cal : Calibration) → Totalled cal [] 0 0 0 0 0
 totalled_none cal = record { radiance_count = sym (number_none _ []); error_count = sym (number_none _ []); outside_count = sym (number_none _ []); over_count = sym (number_none _ []); uncalibrated_count = sym (number_none _ []) }

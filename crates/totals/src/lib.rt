@@ -8,7 +8,7 @@ ghost use Rattle.totals.specs.Files.{totals_of, pixels_of};
 use reading::{Calibration, Reading};
 
 // How many counts read as each kind.
-#[derive(Clone, Copy)]
+#[derive(Clone, Copy, Default)]
 pub struct Totals {
     pub radiance: u64,
     pub error: u64,
@@ -27,7 +27,7 @@ fn limit_of(bits: u16) -> u16
 }
 
 // How many counts pass each of four tests.
-#[derive(Clone, Copy)]
+#[derive(Clone, Copy, Default)]
 struct Passed {
     error: u64,
     outside: u64,
@@ -71,17 +71,11 @@ fn sort_bytes(buffer: &mut [u16], src: &[u8], order: u8, limit: u16) -> Passed
 }
 
 // The same of any length, in pieces of 256 counts.
-#[tactic(auto, using(crate::proofs::Plain::resting))]
 fn sort_all(src: &[u8], order: u8, limit: u16) -> Passed
     ensures { Sorted limit (counts order src.now) result.error result.outside result.over result.below }
 {
     let mut buffer: [u16; 256] = [0; 256];
-    let mut sum = Passed {
-        error: 0,
-        outside: 0,
-        over: 0,
-        below: 0,
-    };
+    let mut sum = Passed::default();
     for piece in src[..src.len() / 2 * 2].chunks(512) {
         let n = piece.len() / 2;
         let sorted = sort_bytes(&mut buffer[..n], piece, order, limit);
@@ -140,13 +134,7 @@ fn with_one(totals: Totals, reading: Reading) -> Totals
 fn read_all(cal: Calibration, order: u8, src: &[u8]) -> Totals
     ensures { Totalled cal (counts order src.now) result.radiance result.error result.outside result.over result.uncalibrated }
 {
-    let mut totals = Totals {
-        radiance: 0,
-        error: 0,
-        outside: 0,
-        over: 0,
-        uncalibrated: 0,
-    };
+    let mut totals = Totals::default();
     for i in 0..src.len() / 2 {
         let count = frame::count_of(order, src[i * 2], src[i * 2 + 1]);
         totals = with_one(totals, reading::read(cal, count));
@@ -175,9 +163,12 @@ fn totals_in(cal: Calibration, order: u8, src: &[u8]) -> Totals
 pub fn totals_of(file: &[u8]) -> Totals
     ensures { result ≡ totals_of file.now }
 {
-    let f = accept::facts_of(file);
-    let order = f.order;
-    totals_in(accept::calibration(f), order, frame::counts_in(file))
+    let facts = accept::facts_of(file);
+    totals_in(
+        accept::calibration(facts),
+        facts.order,
+        frame::counts_in(file),
+    )
 }
 
 // ---- block 10
@@ -188,14 +179,12 @@ pub fn pixels_of(file: &[u8]) -> u32
     ensures { result ≡ pixels_of file.now }
 {
     let order = wire::byte_at(file, 5);
-    let a = header::a_of(file) as usize;
-    let b = header::b_of(file) as usize;
-    let n = header::c_of(file) as usize;
-    let at = 1157 + 10 * a + 10 * b + 9;
+    let at = header::place10(header::a_of(file), header::b_of(file)) + 9;
+    let n = usize::from(header::c_of(file));
     let mut sum = 0;
     for i in 0..n {
-        let line: u16 = wire::number_at(file, at + 4 * i, order);
-        sum += u32::from(line);
+        let pixels: u16 = wire::number_at(file, at + 4 * i, order);
+        sum += u32::from(pixels);
     }
     sum
 }

@@ -1,4 +1,4 @@
-use Rattle.std.proofs.Common.{◌≡◌, ℕ, ◌*◌, ◌/◌, ◌%◌, take, length, length-append, ap, ◌∙◌, arith}
+use Rattle.std.proofs.Common.{◌≡◌, ◌*◌, ◌/◌, ◌%◌, take, length, length-append, ap, ◌∙◌, arith, rules}
 use Rattle.std.proofs.Math.Seq.{length-take-le}
 use Rattle.std.specs.Slice.Iter.{chunks_rest}
 use Rattle.totals.proofs.Plain.{rest_begun, rest_next, rest_done}
@@ -7,16 +7,17 @@ use Rattle.totals.proofs.sort_all.Goals as goal
 pub loop-piece-init : goal.loop-piece-init
 loop-piece-init c =
     let s = c.args.src.now in
+    let zeros : c.default-sum.result ≡ record { error = 0; outside = 0; over = 0; below = 0 } = search rules in
     let rest : chunks_rest c.into_iter-piece-iterator.result ≡ take (length s / 2 * 2) s = cc in
     let long = ap length rest ∙ length-take-le (length s / 2 * 2) s (omega arith) in
     record {
-      so_far = rest_begun _ _ _ _ rest;
+      so_far = rw zeros (rest_begun _ _ _ _ rest);
       size = cc;
       even = omega arith;
-      error_fits = omega arith;
-      outside_fits = omega arith;
-      over_fits = omega arith;
-      below_fits = omega arith;
+      error_fits = rw zeros (omega arith);
+      outside_fits = rw zeros (omega arith);
+      over_fits = rw zeros (omega arith);
+      below_fits = rw zeros (omega arith);
     }
 
 pub loop-piece-preserved : goal.loop-piece-preserved

@@ -1,6 +1,5 @@
 use Rattle.std.proofs.Common.{◌≡◌, ◌+◌, ◌%◌, ◌≤◌, length}
 use Rattle.std.specs.Slice.Iter.{chunks_rest, chunks_size}
-use Rattle.frame.specs.Counts.{counts}
 use Rattle.totals.proofs.Plain.{Rest}
 use Rattle.totals.proofs.sort_all.Given as goal
 

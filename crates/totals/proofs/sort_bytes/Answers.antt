@@ -1,5 +1,4 @@
-use Rattle.std.proofs.Common.{◌≡◌, ap, ◌∙◌, arith, length}
-use Rattle.frame.specs.Counts.{counts}
+use Rattle.std.proofs.Common.{ap, ◌∙◌, arith, length}
 use Rattle.frame.proofs.Copying.{counts_length, filled_twice}
 use Rattle.totals.proofs.sort_bytes.Goals as goal
 
