@@ -6,8 +6,12 @@ mod change;
 mod given;
 mod show;
 
+use cases::CASES;
 use std::io;
 
 fn main(rt: HostRuntime) -> io::Result<()> {
-    cases::run(&rt)
+    for changes in CASES {
+        show::case(&rt, changes)?;
+    }
+    Ok(())
 }
