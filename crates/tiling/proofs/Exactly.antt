@@ -10,8 +10,7 @@ use Rattle.wire.specs.Wire.{Bytes, span, num}
 use Rattle.wire.proofs.Spans.{length_span}
 use Rattle.wire.proofs.Rows.{tab_lt}
 use Rattle.wire.proofs.Pieces.{num_span_lt}
-use Rattle.rules.specs.Rules.{judge, fine, paper, after, says, reply}
-use Rattle.rules.specs.declared.Verdict.{Verdict}
+use Rattle.rules.specs.Rules.{judge, fine, paper, after, says, Verdict}
 use Rattle.rules.proofs.Judge.{said}
 use Rattle.header.specs.declared.Header.{Header}
 use Rattle.header.specs.Places.{order_of, a_of, b_of, c_of, at9, at10, header_length, length_of, data_length}
@@ -153,7 +152,7 @@ pub accepted_fine : (s : List ℕ) → IsAccepted s → judge fine (checks s) �
 accepted_fine s e = says_fine s (facts_of s) e
 
 pub fine_accepted : (s : List ℕ) → judge fine (checks s) ≡ fine → IsAccepted s
-unfolding answer_of reply
+unfolding answer_of
 fine_accepted s e = rw e
 
 only : (s : List ℕ) → Made s → judge fine (checks s) ≡ fine
