@@ -25,3 +25,5 @@ turn s i n h = rw (add-one, drop-cons s i 0)
 pub end : (s : List ℕ) (i n : ℕ) → length s ≤ i → number_from n (drop i s) ≡ n
 unfolding number_from
 end s i n h = rw drop_of_length-le
+
+pub ruleset digits = (none, start, turn, end)

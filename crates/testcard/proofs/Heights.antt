@@ -12,3 +12,5 @@ lines_none w = refl
 pub lines_more : (w : List ℕ) (k n h : ℕ) → n ≡ lines_to w k → h ≡ height_of w k → n + h ≡ lines_to w (k + 1)
 unfolding lines_to
 lines_more w k n h p q = rw (add-one k, p, q)
+
+pub ruleset heights = (lines_none, lines_more)

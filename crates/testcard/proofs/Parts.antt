@@ -1,31 +1,40 @@
 -- A word, part by part.
-use mathlib.Core.Path.{◌≡◌}
-use mathlib.Core.List.{List, [], ◌++◌, append-nil}
-use Prim.Native.Nat.{ℕ, ◌+◌, ◌-◌, ◌≤◌, ◌<◌}
-use native.Mathlib.Numerals.{add-one}
-use native.Mathlib.Omega.{arith}
-use borrow.Author.Tests.{eq-eqb, ne_eqb}
-use lib.ListN.{length, get_or, take, drop, length-drop, drop_of_length-le}
-use lib.Seq.{drop-cons, take-suc, take_all, append_snoc}
+use Rattle.std.proofs.Common.{◌≡◌, refl, List, [], ◌∷◌, ℕ, ◌+◌, ◌-◌, ◌≤◌, ◌<◌, length, get_or, take, drop, length-drop, cond, not, arith, Bool, true, false, eq-eqb, ne_eqb, add-one}
+use Rattle.std.proofs.Math.Dec.{eqb, ltb}
+use Rattle.std.proofs.Math.ListN.{drop_of_length-le}
+use Rattle.std.proofs.Math.Seq.{drop-cons, take_all}
+use Rattle.std.specs.Prelude.{Option, Some, None}
+use Rattle.std.specs.List.{count_by, position_or_len}
+use Rattle.std.proofs.lemmas.Grind.{common_steps}
 use Rattle.testcard.specs.Words.{pluses_in, ahead_of, behind_of}
 
+abbrev pub plus : ℕ → Bool
+plus b = eqb b 43
+
+pub pluses_counted : (s : List ℕ) → pluses_in s ≡ count_by plus s
+unfolding pluses_in
+pluses_counted [] = refl
+pluses_counted (b ∷ s) = grind (arith, common_steps, pluses_counted s)
+
+one_more : (x : Bool) (b n : ℕ) (s t : List ℕ) → t ≡ take n s → cond x [] (b ∷ t) ≡ take (cond (not x) (1 + n) 0) (b ∷ s)
+one_more true b n s t e = refl
+one_more false b n s t e = grind (arith, common_steps, e)
+
+ahead_first : (s : List ℕ) → ahead_of s ≡ take (position_or_len plus s) s
+unfolding ahead_of
+ahead_first [] = refl
+ahead_first (b ∷ s) = one_more (eqb b 43) b _ s _ (ahead_first s)
+
+abbrev pub Position : List ℕ → Option ℕ → Type 0
+Position s r = r ≡ cond (ltb (position_or_len plus s) (length s)) (Some (position_or_len plus s)) None
+
+pub ahead_some : (s : List ℕ) (i : ℕ) → Position s (Some i) → take i s ≡ ahead_of s
+ahead_some s i e = rw (ahead_first s) (grind (arith, common_steps))
+
+pub ahead_none : (s : List ℕ) → Position s None → s ≡ ahead_of s
+ahead_none s e = rw (ahead_first s) (grind (arith, common_steps))
+
 module _ (s : List ℕ) (i : ℕ) (h : i < length s) where
-  pub pluses_one : get_or s i 0 ≡ 43 → pluses_in (drop i s) ≡ pluses_in (drop (i + 1) s) + 1
-  unfolding pluses_in
-  pluses_one e = rw (drop-cons s i 0, eq-eqb (get_or s i 0) 43 e, add-one i)
-
-  pub pluses_same : (get_or s i 0 ≡ 43 → ⊥) → pluses_in (drop i s) ≡ pluses_in (drop (i + 1) s)
-  unfolding pluses_in
-  pluses_same e = rw (drop-cons s i 0, ne_eqb (get_or s i 0) 43 e, add-one i)
-
-  pub ahead_none : get_or s i 0 ≡ 43 → take i s ++ ahead_of (drop i s) ≡ take i s
-  unfolding ahead_of
-  ahead_none e = rw (drop-cons s i 0, eq-eqb (get_or s i 0) 43 e, append-nil)
-
-  pub ahead_more : (get_or s i 0 ≡ 43 → ⊥) → take i s ++ ahead_of (drop i s) ≡ take (i + 1) s ++ ahead_of (drop (i + 1) s)
-  unfolding ahead_of
-  ahead_more e = rw (add-one i, take-suc s i 0, append_snoc, drop-cons s i 0, ne_eqb (get_or s i 0) 43 e)
-
   pub behind_all : (k : ℕ) → k ≡ 0 → behind_of (drop i s) k ≡ take (length s - i) (drop i s)
   unfolding behind_of
   behind_all k e = rw (take_all (length s - i) (drop i s) (rw length-drop (omega arith)), e, drop-cons s i 0)
@@ -39,14 +48,6 @@ module _ (s : List ℕ) (i : ℕ) (h : i < length s) where
   behind_same k n e = rw (add-one i, drop-cons s i 0, ne_eqb k 0 n, ne_eqb (get_or s i 0) 43 e)
 
 module _ (s : List ℕ) (i : ℕ) (h : length s ≤ i) where
-  pub pluses_end : pluses_in (drop i s) ≡ 0
-  unfolding pluses_in
-  pluses_end = rw drop_of_length-le
-
-  pub ahead_end : take i s ++ ahead_of (drop i s) ≡ s
-  unfolding ahead_of
-  ahead_end = rw (drop_of_length-le, append-nil, take_all)
-
   pub behind_end : (k : ℕ) → behind_of (drop i s) k ≡ []
   unfolding behind_of
   behind_end k = rw drop_of_length-le

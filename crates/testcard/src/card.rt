@@ -3,7 +3,6 @@
 ghost use Rattle.std.specs.Prelude.{◌^◌, ◌<◌, ◌≤◌};
 ghost use Rattle.testcard.specs.Card.{Shown};
 
-use calendar::Slotted;
 use header::Header;
 
 // The frame: its columns, the lines of all its segments, valid bits, and how far the rings have moved.
@@ -22,14 +21,6 @@ const EDGE: u32 = 0x4000_0000;
 
 const RING: u64 = 0x0800_0000;
 
-fn slot_of(day: u32, timeline: u16) -> u64 {
-    let slot = calendar::slot(day, timeline);
-    match slot {
-        Slotted::Slot(n) => n,
-        Slotted::Refused(_) => 0,
-    }
-}
-
 // Each shot moves the rings by 25 parts of 149: neighbours differ plainly, and so do two days' shots of one timeline.
 fn moved_by(slot: u64) -> u32
     ensures { result < 134217728 }
@@ -43,33 +34,30 @@ pub(crate) fn frame_of(h: Header, lines: u32) -> Frame {
     let block1 = h.block1;
     let block2 = h.block2;
     let block5 = h.block5;
-    let name = block1.name;
-    let day = format::day_or_0(format::date_of(name));
+    let day = format::day_or_0(format::date_of(block1.name));
+    let slot = calendar::slot(day, block1.timeline).unwrap_or(0);
     Frame {
         columns: block2.columns,
         lines,
         bits: block5.bits,
-        moved: moved_by(slot_of(day, block1.timeline)),
+        moved: moved_by(slot),
     }
 }
 
 // Where a column or a line lies among n, from 0 at one edge to 65,535 at the other; one that is not among them lies at that edge.
 fn place(i: u32, n: u32) -> u16 {
-    if i < 1 {
-        return 65535;
+    if (1..=n).contains(&i) {
+        ((2 * u64::from(i) - 1) * 32768 / u64::from(n)) as u16
+    } else {
+        65535
     }
-    if n < i {
-        return 65535;
-    }
-    ((2 * (i as u64) - 1) * 32768 / (n as u64)) as u16
 }
 
 // How far a place lies from the middle.
 fn way(place: u16) -> u32
     ensures { result ≤ 32768 }
 {
-    let p = place as u32;
-    if p < 32768 { 32768 - p } else { p - 32768 }
+    u32::from(place).abs_diff(32768)
 }
 
 fn squared(way: u32) -> u32
@@ -110,6 +98,6 @@ fn count_at(f: Frame, column: u32, line: u32) -> u16
 pub(crate) fn draw(out: &mut [u8], f: Frame, line: u32, order: u8) {
     for i in 0..f.columns {
         let count = count_at(f, i as u32 + 1, line);
-        wire::put_u16(out, 2 * (i as usize), count, order);
+        wire::put_number(out, 2 * (i as usize), count, order);
     }
 }

@@ -45,39 +45,23 @@ const PLANCK: [f64; 9] = [
 const NONE: f64 = -1e10;
 
 // Of each band: its wavelength in micrometres, and what a count is worth. Sunlight grows with the count, and warmth falls.
-const BANDS: [f64; 32] = [
-    0.46,
-    0.375,
-    0.51,
-    0.375,
-    0.64,
-    0.3125,
-    0.86,
-    0.1875,
-    1.6,
-    0.046875,
-    2.3,
-    0.015625,
-    3.9,
-    -0.000244140625,
-    6.2,
-    -0.0078125,
-    7.0,
-    -0.0078125,
-    7.3,
-    -0.00390625,
-    8.6,
-    -0.00390625,
-    9.6,
-    -0.00390625,
-    10.4,
-    -0.00390625,
-    11.2,
-    -0.00390625,
-    12.3,
-    -0.00390625,
-    13.3,
-    -0.0078125,
+const BANDS: [(f64, f64); 16] = [
+    (0.46, 0.375),
+    (0.51, 0.375),
+    (0.64, 0.3125),
+    (0.86, 0.1875),
+    (1.6, 0.046875),
+    (2.3, 0.015625),
+    (3.9, -0.000244140625),
+    (6.2, -0.0078125),
+    (7.0, -0.0078125),
+    (7.3, -0.00390625),
+    (8.6, -0.00390625),
+    (9.6, -0.00390625),
+    (10.4, -0.00390625),
+    (11.2, -0.00390625),
+    (12.3, -0.00390625),
+    (13.3, -0.0078125),
 ];
 
 // Of bands 1 to 6: what makes an albedo of a radiance.
@@ -106,8 +90,8 @@ pub(crate) fn put_projection(
     order: u8,
 ) {
     reals::put(out, 335, &[140.7], order);
-    wire::put_u32(out, 343, factor(resolution), order);
-    wire::put_u32(out, 347, factor(resolution), order);
+    wire::put_number(out, 343, factor(resolution), order);
+    wire::put_number(out, 347, factor(resolution), order);
     reals::put_short(out, 351, middle(columns), order);
     reals::put_short(out, 355, middle(lines), order);
     reals::put(out, 359, &SPHERE, order);
@@ -130,8 +114,8 @@ fn dark(band: u16) -> f64 {
 
 pub(crate) fn put_calibration(out: &mut [u8; 1463], band: u16, order: u8) {
     let at = (band as usize + 15) % 16;
-    let gain = BANDS[2 * at + 1];
-    reals::put(out, 603, &[BANDS[2 * at]], order);
+    let (wavelength, gain) = BANDS[at];
+    reals::put(out, 603, &[wavelength], order);
     reals::put(out, 617, &[gain, -dark(band) * gain], order);
     if band < 7 {
         reals::put(out, 633, &[ALBEDOS[at % 6]], order);

@@ -15,6 +15,7 @@ pub struct Cut {
 }
 
 // The word of the segment that has k before it; one number is every segment's.
+#[tactic(auto, unfolding(crate::specs::Cut::part_of))]
 fn part_of(word: &[u8], k: u8) -> &[u8]
     ensures { result.now ≡ part_of word.now k }
 {
@@ -25,6 +26,7 @@ fn part_of(word: &[u8], k: u8) -> &[u8]
 }
 
 // Its lines. A segment has one at least, so that 0 is as bad as no number.
+#[tactic(auto, unfolding(crate::specs::Cut::height_of))]
 fn height_of(word: &[u8], k: u8) -> u16
     ensures { result ≡ height_of word.now k }
 {
@@ -33,12 +35,13 @@ fn height_of(word: &[u8], k: u8) -> u16
 }
 
 // The lines of the first n segments.
+#[tactic(auto, using(crate::proofs::Heights::heights))]
 fn lines_to(word: &[u8], n: u8) -> u32
     ensures { (result ≡ lines_to word.now n) × (result ≤ 65535 * n) }
 {
     let mut lines = 0;
     for k in 0..n {
-        lines += height_of(word, k) as u32;
+        lines += u32::from(height_of(word, k));
     }
     lines
 }
@@ -47,13 +50,15 @@ fn lines_to(word: &[u8], n: u8) -> u32
 fn prior(number: u8, total: u8) -> u8
     ensures { result ≡ prior_to number total }
 {
-    if number == 0 {
-        return 0;
+    if number <= total {
+        number.saturating_sub(1)
+    } else {
+        0
     }
-    if number <= total { number - 1 } else { 0 }
 }
 
 // One number, which the writer judges; or a number for each segment, and 22,000 lines at most.
+#[tactic(auto, unfolding(crate::specs::Cut::good_cut))]
 fn is_good(word: &[u8], total: u8) -> bool
     ensures { result ≡ good_cut word.now total }
 {
@@ -63,6 +68,7 @@ fn is_good(word: &[u8], total: u8) -> bool
 }
 
 // The lines of a segment, and the first of them.
+#[tactic(auto, unfolding(crate::specs::Cut::lines_of))]
 fn lines_of(word: &[u8], number: u8, total: u8) -> u16
     ensures { result ≡ lines_of word.now number total }
 {
@@ -73,6 +79,7 @@ fn lines_of(word: &[u8], number: u8, total: u8) -> u16
     }
 }
 
+#[tactic(auto, unfolding(crate::specs::Cut::first_line_of))]
 fn first_of(word: &[u8], number: u8, total: u8) -> u16
     ensures { result ≡ first_line_of word.now number total }
 {

@@ -27,14 +27,14 @@ fn send_line(
     order: u8,
 ) -> io::Result<()> {
     card::draw(line, f, at, order);
-    rt.write_all(wire::piece(line, 0, 2 * (f.columns as usize)))
+    rt.write_all(wire::piece(line, 0, 2 * usize::from(f.columns)))
 }
 
 // Writes the counts of a segment, line by line.
 fn send_counts(rt: &impl Print, f: Frame, first: u16, lines: u16, order: u8) -> io::Result<()> {
     let mut line = [0u8; LINE];
     for i in 0..lines {
-        send_line(rt, &mut line, f, first as u32 + i as u32, order)?;
+        send_line(rt, &mut line, f, u32::from(first) + u32::from(i), order)?;
     }
     Ok(())
 }
@@ -62,9 +62,8 @@ fn main(rt: HostRuntime) -> io::Result<()> {
     let cut = cut::read(&rt, a.number, a.total);
     let h = values::header_of(a, cut);
     let mut out = [0u8; 1463];
-    let v = writer::write(&mut out, h, &[], &[], &[], &[], &[], &[], &[]);
-    if faults::told(&rt, v)? {
-        return Ok(());
+    if let Err(t) = writer::write(&mut out, h, &[], &[], &[], &[], &[], &[], &[]) {
+        return faults::refusal(&rt, t);
     }
     match send(&rt, &out, h, cut.all) {
         Ok(()) => Ok(()),

@@ -16,19 +16,19 @@ fn satellite(number: u16) -> u8 {
 
 // All but the date, which may be no number.
 fn plan_of(a: Asked, cut: Cut) -> Plan {
-    let area = a.area;
-    let mut p = samples::paper();
-    p.order = a.order;
-    p.satellite = satellite(a.satellite);
-    p.timeline = a.timeline;
-    p.band = a.band;
-    p.area = wire::u32_at(&area, 0, 1);
-    p.columns = a.columns;
-    p.lines = cut.lines;
-    p.number = a.number;
-    p.total = a.total;
-    p.first = cut.first;
-    p
+    Plan {
+        order: a.order,
+        satellite: satellite(a.satellite),
+        timeline: a.timeline,
+        band: a.band,
+        area: u32::from_be_bytes(a.area),
+        columns: a.columns,
+        lines: cut.lines,
+        number: a.number,
+        total: a.total,
+        first: cut.first,
+        ..samples::paper()
+    }
 }
 
 // The centre, the version, and the day of the name.
@@ -40,9 +40,7 @@ fn put_texts(out: &mut [u8; 1463], date: [u8; 8]) {
 
 // The day of a header's name, and the timeline's minutes, as Modified Julian Days.
 fn shot_time(out: &[u8; 1463], timeline: u16) -> f64 {
-    let mut name = [0u8; 128];
-    wire::fill(&mut name, out, 114);
-    let day = format::day_or_0(format::date_of(name));
+    let day = format::day_or_0(format::date_of(wire::bytes_at(out, 114)));
     let minutes = timeline / 100 * 60 + timeline % 100;
     (day as f64) + (minutes as f64) / 1440.0
 }
@@ -54,17 +52,11 @@ fn put_times(out: &mut [u8; 1463], shot: f64, number: u8, total: u8, order: u8) 
     reals::put(out, 46, &[ended - each, ended, ended + 0.01], order);
 }
 
-// So no caller has to prove how long it is.
-fn values_of(file: &[u8; 1463]) -> Header {
-    header::read_header(file)
-}
-
 pub(crate) fn header_of(a: Asked, cut: Cut) -> Header {
-    let date = a.date;
     let resolution = format::band_of(a.band).resolution;
     let mut out = [0u8; 1463];
     samples::make(&mut out, plan_of(a, cut));
-    put_texts(&mut out, date);
+    put_texts(&mut out, a.date);
     let shot = shot_time(&out, a.timeline);
     put_times(&mut out, shot, a.number, a.total, a.order);
     carried::put_projection(
@@ -77,5 +69,5 @@ pub(crate) fn header_of(a: Asked, cut: Cut) -> Header {
     carried::put_navigation(&mut out, shot, a.order);
     carried::put_calibration(&mut out, a.band, a.order);
     carried::put_no_more(&mut out, a.order);
-    values_of(&out)
+    header::read_header(&out)
 }

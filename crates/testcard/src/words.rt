@@ -28,32 +28,30 @@ const PLUS: u8 = 43;
 pub(crate) fn short(n: u32) -> u16
     ensures { result ≡ min n 65535 }
 {
-    if n <= 65535 { n as u16 } else { NONE }
+    n.min(65535) as u16
 }
 
 // A number with one digit more.
 fn longer(n: u16, b: u8) -> u16
     ensures { result ≡ longer_by n b }
 {
-    if b < 48 {
-        return NONE;
+    match b {
+        b'0'..=b'9' => short(u32::from(n) * 10 + u32::from(b - b'0')),
+        _ => NONE,
     }
-    if 57 < b {
-        return NONE;
-    }
-    short((n as u32) * 10 + (b - 48) as u32)
 }
 
 // The number that a word spells in decimal digits.
+#[tactic(auto, using(crate::proofs::Digits::digits), unfolding(crate::specs::Words::number_of))]
 pub(crate) fn number_of(word: &[u8]) -> u16
     ensures { result ≡ number_of word.now }
 {
-    if word.len() == 0 {
+    if word.is_empty() {
         return NONE;
     }
     let mut n = 0;
-    for i in 0..word.len() {
-        n = longer(n, word[i]);
+    for b in word {
+        n = longer(n, *b);
     }
     n
 }
@@ -62,25 +60,17 @@ pub(crate) fn number_of(word: &[u8]) -> u16
 pub(crate) fn pluses(word: &[u8]) -> usize
     ensures { result ≡ pluses_in word.now }
 {
-    let mut n = 0;
-    for i in 0..word.len() {
-        if word[i] == PLUS {
-            n += 1;
-        }
-    }
-    n
+    word.iter().filter(|b| **b == PLUS).count()
 }
 
 // What stands ahead of a word's first plus.
 pub(crate) fn ahead(word: &[u8]) -> &[u8]
     ensures { result.now ≡ ahead_of word.now }
 {
-    for i in 0..word.len() {
-        if word[i] == PLUS {
-            return &word[..i];
-        }
+    match word.iter().position(|b| *b == PLUS) {
+        Some(i) => &word[..i],
+        None => word,
     }
-    word
 }
 
 // What stands behind k pluses; nothing, where there are fewer.
@@ -88,25 +78,22 @@ pub(crate) fn behind(word: &[u8], k: u8) -> &[u8]
     ensures { result.now ≡ behind_of word.now k }
 {
     let mut left = k;
-    for i in 0..word.len() {
+    for (i, b) in word.iter().enumerate() {
         if left == 0 {
             return &word[i..];
         }
-        if word[i] == PLUS {
+        if *b == PLUS {
             left -= 1;
         }
     }
-    &word[..0]
+    &[]
 }
 
 // Puts an argument at the start of a buffer, and answers how many bytes it has: none where it is missing, or longer than the buffer.
 pub(crate) fn arg(rt: &impl Env, i: usize, buf: &mut [u8]) -> usize
     ensures { result ≤ length buf.new }
 {
-    match rt.arg(i, buf) {
-        Ok(n) => n,
-        Err(_) => 0,
-    }
+    rt.arg(i, buf).unwrap_or(0)
 }
 
 fn is_there(rt: &impl Env, i: usize) -> bool {
@@ -127,36 +114,26 @@ fn number(rt: &impl Env, i: usize) -> u16 {
 
 // The same in a byte; 255 is out of range where 65,535 is.
 fn small_number(rt: &impl Env, i: usize) -> u8 {
-    let n = number(rt, i);
-    if n <= 255 { n as u8 } else { 255 }
+    number(rt, i).min(255) as u8
 }
 
 // The letters of an argument that has so many of them.
-fn letters4(rt: &impl Env, i: usize) -> [u8; 4] {
-    let mut word = [0u8; 4];
-    if arg(rt, i, &mut word) == 4 {
+fn letters<const N: usize>(rt: &impl Env, i: usize) -> [u8; N] {
+    let mut word = [0; N];
+    if arg(rt, i, &mut word) == N {
         word
     } else {
-        [0; 4]
-    }
-}
-
-fn letters8(rt: &impl Env, i: usize) -> [u8; 8] {
-    let mut word = [0u8; 8];
-    if arg(rt, i, &mut word) == 8 {
-        word
-    } else {
-        [0; 8]
+        [0; N]
     }
 }
 
 pub(crate) fn read(rt: &impl Env) -> Asked {
     Asked {
         satellite: number(rt, 1),
-        date: letters8(rt, 2),
+        date: letters(rt, 2),
         timeline: number(rt, 3),
         band: number(rt, 4),
-        area: letters4(rt, 5),
+        area: letters(rt, 5),
         columns: number(rt, 6),
         number: small_number(rt, 8),
         total: small_number(rt, 9),
