@@ -50,7 +50,7 @@ for path, name, body in bodies('enum'):
 tell(1, 'enums of the shape of Option or Result', own)
 tell(1, 'structs of a verdict and a value', ['%s/%s' % (crate(p), n) for p, n, b in bodies('struct') if 'verdict:' in b])
 tell(1, 'functions that match an enum to numbers', ['%s/%s' % (crate(p), n) for p, n, b in bodies('fn') if len(re.findall(r'\w+::\w+(?:\(_\))? => \d+,', b)) > 2])
-tell(1, 'constants that pack a code and a value into one number', lines(r'const \w+: \w+ = .*\* *(WHAT|PART|DEED)\b|const \w+: usize = \d_\d;|\d_\d{4}_\d\d'))
+tell(1, 'constants that pack a code and a value into one number', lines(r'const \w+: \w+ = .*\* *(WHAT|PART|DEED)\b|const \w+: usize = \d_\d;|(?<![\w])\d{1,2}_\d{4}_\d\d\b'))
 
 # 2
 def bare(name, body):
