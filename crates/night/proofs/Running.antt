@@ -1,51 +1,47 @@
 -- Laws for a run: the loops over its refusals, its limits, and what a ruling on it means.
 -- Assumes nothing.
 use mathlib.Core.Path.{◌≡◌, refl, sym, ap, ◌∙◌}
-use mathlib.Core.Bool.{Bool, true, false, cond, not, false≢true, and-eq-true_iff}
-use mathlib.Core.List.{List, [], ◌++◌}
+use mathlib.Core.Bool.{Bool, true, false, cond, not, ◌&&◌, and-true, and-false, false≢true, and-eq-true_iff}
+use mathlib.Core.List.{List, [], ◌∷◌, ◌++◌}
 use mathlib.Core.Logic.{⊎_elim}
-use Prim.Native.Nat.{ℕ, zero, suc, ◌+◌, ◌-◌, ◌<◌, ◌≤◌}
-use native.Mathlib.Nat.{eq-or-lt_of_le, le_of_suc-le-suc}
+use Prim.Native.Nat.{ℕ, zero, suc, ◌+◌, ◌<◌, ◌≤◌}
+use native.Mathlib.Nat.{add-zero, eq-or-lt_of_le, le_of_suc-le-suc}
 use native.Mathlib.Numerals.{add-one}
 use native.Mathlib.Omega.{arith}
-use borrow.Author.Tests.{lt-ltb, le-ltb, ltb-false, leb-false, not-true}
+use borrow.Author.Tests.{le-leb, lt-leb, ltb-true, ltb-false, leb-false, not-true}
+use Rattle.std.specs.List.{list_all}
+use Rattle.std.proofs.lemmas.List.Folds.{list_all-append}
 use lib.Dec.{ltb, leb}
-use lib.ListN.{get_or}
-use Rattle.rules.specs.Rules.{turned, Ruling, fine, refused, checked, judge, tables, number_of, paper}
+use lib.ListN.{length, get_or, take}
+use lib.Seq.{take-suc, take_all}
+use Rattle.rules.specs.Rules.{turned, paper_of, fine, refused, judge, number_of}
 use Rattle.rules.specs.declared.Why.{Why}
 use Rattle.rules.specs.declared.Why.TheVariants.{Short, Number, Order, Length, Fixed, Packed, HeaderSum, DataSum, Name, Cut, Tail, Slate, Strip, OtherShot, Already, Room, Reel, Run, Satellite, Area, Timeline, Size, Compression, Band, Bits, Segment, Day}
 use Rattle.rules.specs.declared.Refusal.{Refusal}
-use Rattle.rules.specs.declared.Verdict.{Verdict}
-use Rattle.rules.specs.declared.Verdict.TheVariants.{Refused}
 use Rattle.rules.proofs.Judge.{judge_refused, exactly, each_is}
 use Rattle.accept.specs.Checks.{checks}
+use Rattle.totals.specs.declared.Totals.{Totals}
+use Rattle.totals.specs.Files.{totals_of}
+use Rattle.totals.proofs.Sizes.{sized, totals_most}
 use Rattle.night.specs.declared.Run as R
+use Rattle.night.specs.Runs as W
 use Rattle.night.specs.Runs.{sum_to, small_to, held_by, within, open_run, opening, adding, added}
 
 -- ---- the loops
 
-pub sum_none : (xs : List ℕ) → 0 ≡ sum_to 0 xs
+pub held_none : (r : R.Run) → r.accepted + sum_to 0 r.refused ≡ r.accepted
 unfolding sum_to
-sum_none xs = refl
+held_none r = add-zero _
 
-pub sum_more : (xs : List ℕ) (k t x : ℕ) → t ≡ sum_to k xs → x ≡ get_or xs k 0 → t + x ≡ sum_to (k + 1) xs
+pub held_more : (xs : List ℕ) (k : ℕ) → sum_to (k + 1) xs ≡ sum_to k xs + get_or xs k 0
 unfolding sum_to
-sum_more xs k t x p q = rw (add-one k, p, q)
+held_more xs k = rw add-one
 
-pub small_none : (xs : List ℕ) (k : ℕ) → k ≤ 0 → small_to k xs ≡ true
-unfolding small_to
-small_none xs zero h = refl
-small_none xs (suc k) h = absurd (omega arith)
+pub held_all : (r : R.Run) (n : ℕ) → n ≡ 64 → r.accepted + sum_to n r.refused ≡ held_by r
+unfolding held_by
+held_all r n e = rw e
 
-pub small_hit : (xs : List ℕ) (k : ℕ) → 1 ≤ k → 4096 < get_or xs (k - 1) 0 → small_to k xs ≡ false
-unfolding small_to
-small_hit xs zero h e = absurd (omega arith)
-small_hit xs (suc k) h e = let i : suc k - 1 ≡ k = omega arith in rw (lt-ltb 4096 (get_or xs k 0) (rw i at e))
-
-pub small_miss : (xs : List ℕ) (k : ℕ) → 1 ≤ k → get_or xs (k - 1) 0 ≤ 4096 → small_to k xs ≡ small_to (k - 1) xs
-unfolding small_to
-small_miss xs zero h e = absurd (omega arith)
-small_miss xs (suc k) h e = let i : suc k - 1 ≡ k = omega arith in rw (le-ltb 4096 (get_or xs k 0) (rw i at e), i)
+pub ruleset holding = (held_none, held_more, held_all)
 
 pub small_at : (xs : List ℕ) (n at : ℕ) → at < n → small_to n xs ≡ true → get_or xs at 0 ≤ 4096
 unfolding small_to
@@ -55,6 +51,22 @@ small_at xs (suc n) at h e = go (ltb 4096 (get_or xs n 0)) refl e (λ l s. small
     go : (b : Bool) → ltb 4096 (get_or xs n 0) ≡ b → cond b false (small_to n xs) ≡ true → (at < n → small_to n xs ≡ true → get_or xs at 0 ≤ 4096) → get_or xs at 0 ≤ 4096
     go true q e ih = absurd (false≢true e)
     go false q e ih = ⊎_elim (λ i. rw i (ltb-false 4096 (get_or xs n 0) q)) (λ l. ih l e) (eq-or-lt_of_le (le_of_suc-le-suc h))
+
+below : (b : Bool) (y : ℕ) → (b && (leb y 4096 && true)) ≡ cond (ltb 4096 y) false b
+below b y = go (ltb 4096 y) refl
+  where
+    go : (t : Bool) → ltb 4096 y ≡ t → (b && (leb y 4096 && true)) ≡ cond t false b
+    go true e = rw (lt-leb y 4096 (ltb-true 4096 y e)) (and-false b)
+    go false e = rw (le-leb y 4096 (ltb-false 4096 y e)) (and-true b)
+
+small_take : (xs : List ℕ) (n : ℕ) → n ≤ length xs → list_all (λ x. leb x 4096) (take n xs) ≡ small_to n xs
+unfolding small_to
+small_take xs zero h = refl
+small_take xs (suc n) h = rw (take-suc xs n 0 (omega arith), list_all-append, small_take xs n (omega arith)) (below (small_to n xs) (get_or xs n 0))
+
+-- each is small
+pub small_all : (xs : List ℕ) → length xs ≡ 64 → small_to 64 xs ≡ list_all (λ x. leb x 4096) xs
+small_all xs h = sym (small_take xs 64 (omega arith)) ∙ ap (list_all (λ x. leb x 4096)) (take_all 64 xs (omega arith))
 
 -- ---- a run that takes one more
 
@@ -90,6 +102,12 @@ pub few : (r : R.Run) → open_run r ≡ true → r.accepted < 4096
 unfolding held_by
 few r e = omega (arith, (opened r e).held)
 
+-- a file's totals fit beside its own
+pub room : (r : R.Run) (t : Totals) → open_run r ≡ true → (t.radiance ≤ 484000000) × (t.error ≤ 484000000) × (t.outside ≤ 484000000) × (t.over ≤ 484000000) × (t.uncalibrated ≤ 484000000) → W.Room r t
+room r t e m =
+    let o = opened r e in
+    (omega (arith, m.0), omega (arith, m.1), omega (arith, m.2), omega (arith, m.3), omega (arith, m.4), few r e)
+
 -- ---- the ruling
 
 pub number_small : (w : Why) → number_of w < 64
@@ -123,7 +141,7 @@ number_small Day = omega arith
 
 -- another refusal than RUN is given only by a run that takes one more
 pub open_of : (r : R.Run) (f : List ℕ) (n b p : ℕ) → added r f ≡ refused (turned n b p) → (n ≡ 19 → ⊥) → open_run r ≡ true
-unfolding adding opening tables checked
+unfolding adding opening
 open_of r f n b p e other = go (open_run r) refl
   where
     go : (t : Bool) → open_run r ≡ t → open_run r ≡ true
@@ -134,14 +152,22 @@ open_of r f n b p e other = go (open_run r) refl
         let x : n ≡ 19 = cc in
         absurd (other x)
 
--- a refusal as the code has it
-pub away : {q : Ruling} {v : Verdict} {t : Refusal} → paper v ≡ q → v ≡ Refused t → q ≡ refused (turned (number_of t.why) t.block t.offset)
-unfolding paper
-away e g = sym e ∙ ap paper g
-
 -- an accepted file
 pub taken : (r : R.Run) (f : List ℕ) → added r f ≡ fine → (open_run r ≡ true) × (judge fine (checks f) ≡ fine)
 unfolding adding opening
 taken r f e =
-    let h = each_is _ ((exactly (adding r f)).0 e) in
+    let h = each_is (opening r ∷ checks f ∷ []) ((exactly (adding r f)).0 e) in
     (h.0.0, (exactly (checks f)).1 h.1.0)
+
+-- ---- what is counted, of a refusal as the code has it and of an accepted file
+
+pub refused_room : (r : R.Run) (f : List ℕ) (t : Refusal) → refused (paper_of t) ≡ added r f → (number_of t.why ≡ 19 → ⊥) → get_or r.refused (number_of t.why) 0 ≤ 4096
+refused_room r f t e other = small_at r.refused 64 (number_of t.why) (number_small t.why) (opened r (open_of r f _ _ _ (sym e) other)).refused
+
+pub accepted_most : (r : R.Run) (f : List ℕ) → fine ≡ added r f → (totals_of f).error ≤ 484000000
+accepted_most r f e = (totals_most f (sized f (taken r f (sym e)).1)).1
+
+pub accepted_room : (r : R.Run) (f : List ℕ) → fine ≡ added r f → W.Room r (totals_of f)
+accepted_room r f e = let k = taken r f (sym e) in room r (totals_of f) k.0 (totals_most f (sized f k.1))
+
+pub ruleset ruling = (number_small, refused_room, accepted_most, accepted_room)

@@ -1,5 +1,5 @@
 -- A run of up to 4,096 files: when it takes one more, and what it holds after one.
-use Rattle.std.specs.Prelude.{ℕ, zero, suc, ◌+◌, Bool, true, false, cond, not, ◌&&◌, List, [], ◌∷◌, eqb, leb, ltb, ℤ, pos, ◌-ℤ◌, get_or, set, replicate}
+use Rattle.std.specs.Prelude.{ℕ, zero, suc, ◌+◌, ◌^◌, ◌<◌, Bool, true, false, cond, not, ◌&&◌, List, [], ◌∷◌, eqb, leb, ltb, ℤ, pos, ◌-ℤ◌, get_or, set, replicate}
 use Rattle.rules.specs.Rules.{Row, row, tables, Ruling, fine, refused, turned, judge, after}
 use Rattle.accept.specs.Checks.{checks}
 use Rattle.totals.specs.declared.Totals.{Totals}
@@ -48,6 +48,16 @@ adding r f = tables (opening r ∷ checks f ∷ [])
 
 abbrev pub added : Run → List ℕ → Ruling
 added r f = judge fine (adding r f)
+
+-- the sums of a run and the totals of a file are far below what their numbers can hold
+abbrev pub Room : Run → Totals → Type 0
+Room r t =
+    (r.totals.radiance + t.radiance < 2 ^ 63)
+    × (r.totals.error + t.error < 2 ^ 63)
+    × (r.totals.outside + t.outside < 2 ^ 63)
+    × (r.totals.over + t.over < 2 ^ 63)
+    × (r.totals.uncalibrated + t.uncalibrated < 2 ^ 63)
+    × (r.accepted < 4096)
 
 -- a file that is accepted: each kind's total grows by its own number
 unfoldable pub with_totals : Run → Totals → Run

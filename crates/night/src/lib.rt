@@ -1,10 +1,11 @@
 #![tactic(auto)]
 // A night's run of files: how many counts of the accepted ones read as each kind, and how many files were refused, by refusal.
-ghost use Rattle.std.specs.Prelude.{◌≡◌, true, ◌≤◌, ◌<◌, get_or, pos, ◌-ℤ◌};
+ghost use Rattle.std.specs.Prelude.{◌≡◌, ◌≤◌, ◌<◌, get_or, leb};
+ghost use Rattle.std.specs.List.{list_all};
 ghost use Rattle.rules.specs.Rules.{paper};
-ghost use Rattle.night.specs.Runs.{small_to, empty_run, held_by, open_run, added, with_totals, with_refusal, run_after, extra_after};
+ghost use Rattle.night.specs.Runs.{empty_run, held_by, open_run, added, Room, with_totals, with_refusal, run_after, extra_after};
 
-use rules::{Verdict, Why};
+use rules::{Refusal, Why};
 use totals::Totals;
 
 // What a run holds; the place in `refused` is the refusal's number.
@@ -15,66 +16,48 @@ pub struct Run {
     pub refused: [u32; 64],
 }
 
-// A verdict, the error pixels found less those listed, and the run that is now the newest.
+// A verdict, the error pixels found less those listed, and the run that is now the newest. A struct, and no Result: `run_value` says of a
+// refused file, too, what the run holds now.
 #[derive(Clone, Copy)]
 pub struct Added {
-    pub verdict: Verdict,
+    pub verdict: Result<(), Refusal>,
     pub extra: i64,
     pub run: Run,
 }
 
 // With no file.
+#[tactic(auto, unfolding(crate::specs::Runs::empty_run))]
 pub fn empty() -> Run
     ensures { result ≡ empty_run }
 {
     Run {
-        totals: Totals {
-            radiance: 0,
-            error: 0,
-            outside: 0,
-            over: 0,
-            uncalibrated: 0,
-        },
+        totals: Totals::default(),
         accepted: 0,
         refused: [0; 64],
     }
 }
 
-// A number of the run, and that it is one of 32 bits.
-fn wide(x: u32) -> u64
-    ensures { (result ≡ x) × (result < 4294967296) }
-{
-    x as u64
-}
-
 // How many files a run holds.
+#[tactic(auto, using(crate::proofs::Running::holding))]
 fn held_by(run: Run) -> u64
     ensures { result ≡ held_by run }
 {
-    let mut sum: u64 = 0;
-    let mut k: usize = 0;
-    while k < 64 {
-        sum += wide(run.refused[k]);
-        k += 1;
+    let mut held = u64::from(run.accepted);
+    for n in &run.refused {
+        held += u64::from(*n);
     }
-    wide(run.accepted) + sum
+    held
 }
 
 // No refusal's number is above 4,096.
 fn small_refused(run: Run) -> bool
-    ensures { result ≡ small_to 64 run.refused }
+    ensures { result ≡ list_all (λ n. leb n 4096) run.refused }
 {
-    let mut k: usize = 64;
-    while 0 < k {
-        k -= 1;
-        if 4096 < run.refused[k] {
-            return false;
-        }
-    }
-    true
+    run.refused.iter().all(|n| *n <= 4096)
 }
 
 // Within its limits; else RUN.
+#[tactic(auto, using(crate::proofs::Running::small_all), unfolding(crate::specs::Runs::open_run))]
 fn open_run(run: Run) -> bool
     ensures { result ≡ open_run run }
 {
@@ -89,90 +72,66 @@ fn open_run(run: Run) -> bool
 }
 
 // RUN first of all, and then the file's own checks.
-fn judge(run: Run, file: &[u8]) -> Verdict
+#[tactic(auto, using(rules::proofs::Judge::judging), unfolding(crate::specs::Runs::opening, crate::specs::Runs::adding))]
+fn judge(run: Run, file: &[u8]) -> Result<(), Refusal>
     ensures { paper result ≡ added run file.now }
 {
-    let v = rules::check(Verdict::Fine, open_run(run), Why::Run, 0, 0);
-    accept::check_file(v, file)
-}
-
-// A refusal's number in a run that takes one more.
-fn number_at(run: Run, at: usize) -> u32
-    requires { (open_run run ≡ true) × (at < 64) }
-    ensures { (result ≡ get_or run.refused at 0) × (result ≤ 4096) }
-{
-    run.refused[at]
+    rules::require(open_run(run), Why::Run, 0, 0)?;
+    accept::check_file(file)
 }
 
 // Only that refusal's number grows, and RUN keeps all.
 #[tactic(auto, unfolding(crate::specs::Runs::with_refusal))]
 fn turned_away(run: Run, number: u8) -> Run
-    requires { ((number ≡ 19 → ⊥) → open_run run ≡ true) × (number < 64) }
+    requires { (number < 64) × ((number ≡ 19 → ⊥) → get_or run.refused number 0 ≤ 4096) }
     ensures { result ≡ with_refusal run number }
 {
     if number == 19 {
         return run;
     }
-    let at = number as usize;
-    let n = number_at(run, at);
     let mut next = run;
-    next.refused[at] = n + 1;
+    next.refused[usize::from(number)] += 1;
     next
 }
 
+#[tactic(auto, unfolding(crate::specs::Runs::with_totals))]
 fn counted(run: Run, t: Totals) -> Run
-    requires { (open_run run ≡ true) × (t.radiance ≤ 484000000) × (t.error ≤ 484000000) × (t.outside ≤ 484000000) × (t.over ≤ 484000000) × (t.uncalibrated ≤ 484000000) }
+    requires { Room run t }
     ensures { result ≡ with_totals run t }
 {
     let had = run.totals;
-    let refused = run.refused;
-    let totals = Totals {
-        radiance: had.radiance + t.radiance,
-        error: had.error + t.error,
-        outside: had.outside + t.outside,
-        over: had.over + t.over,
-        uncalibrated: had.uncalibrated + t.uncalibrated,
-    };
     Run {
-        totals,
+        totals: Totals {
+            radiance: had.radiance + t.radiance,
+            error: had.error + t.error,
+            outside: had.outside + t.outside,
+            over: had.over + t.over,
+            uncalibrated: had.uncalibrated + t.uncalibrated,
+        },
         accepted: run.accepted + 1,
-        refused,
+        ..run
     }
 }
 
-// Found less listed.
-fn difference(a: u64, b: u64) -> i64
-    requires { (a < 9223372036854775808) × (b < 9223372036854775808) }
-    ensures { result ≡ pos a -ℤ pos b }
-{
-    (a as i64) - (b as i64)
-}
-
 // Judges a file, and counts it: an accepted one by its readings, a refused one by its refusal.
+#[tactic(auto, using(crate::proofs::Running::ruling), unfolding(rules::specs::Rules::after, crate::specs::Runs::extra_after, crate::specs::Runs::extra_of, crate::specs::Runs::run_after, crate::specs::Runs::ruled_run))]
 pub fn add(run: Run, file: &[u8]) -> Added
     ensures verdict_value { paper result.verdict ≡ added run file.now }
     ensures extra_value { result.extra ≡ extra_after run file.now }
     ensures run_value { result.run ≡ run_after run file.now }
 {
-    let v = judge(run, file);
-    match v {
-        Verdict::Refused(t) => {
-            let why = t.why;
-            let next = turned_away(run, rules::number_of(why));
-            Added {
-                verdict: Verdict::Refused(t),
-                extra: 0,
-                run: next,
-            }
-        }
-        Verdict::Fine => {
+    match judge(run, file) {
+        Err(t) => Added {
+            verdict: Err(t),
+            extra: 0,
+            run: turned_away(run, rules::number_of(t.why)),
+        },
+        Ok(()) => {
             let t = totals::totals_of(file);
-            let extra = difference(t.error, totals::pixels_of(file) as u64);
-            let next = counted(run, t);
             Added {
-                verdict: Verdict::Fine,
-                extra,
-                run: next,
+                verdict: Ok(()),
+                extra: t.error as i64 - i64::from(totals::pixels_of(file)),
+                run: counted(run, t),
             }
         }
     }

@@ -1,10 +1,9 @@
-use Prim.Native.Nat.{◌*◌, ◌-◌, ◌≤◌}
-use mathlib.Core.Path.{◌≡◌}
+use Rattle.std.proofs.Common.{◌≡◌, ◌+◌, ◌*◌, ◌≤◌}
 use Rattle.night.specs.Runs.{sum_to}
 use Rattle.night.proofs.held_by.Given as goal
 
-abbrev pub invariant-loop-k : goal.invariant-loop-k
-invariant-loop-k l = (l.k ≤ 64) × (l.sum ≡ sum_to l.k l.run.refused) × (l.sum ≤ l.k * 4294967295)
-
-abbrev pub decreases-loop-k : goal.decreases-loop-k
-decreases-loop-k l = 64 - l.k
+abbrev pub invariant-loop-n : goal.invariant-loop-n
+invariant-loop-n l = record {
+  so_far : l.held ≡ l.fn.run.accepted + sum_to l.n-index l.fn.run.refused;
+  fits : l.held ≤ 4294967295 + l.n-index * 4294967295;
+}
