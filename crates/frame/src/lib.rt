@@ -13,7 +13,7 @@ use rules::{Refusal, Why, require};
 use slate::{Column, Line, Slate};
 use wire::Word;
 
-// The numbers 1 to 99 that are in; number k stands at k - 1.
+// The numbers 1 to 99 that are in; number k stands at k - 1. There is no heap, and so there is room for all.
 #[derive(Clone, Copy)]
 pub struct Record {
     pub marks: [bool; 99],
@@ -40,7 +40,7 @@ pub fn empty() -> Record
 pub fn is_marked(rec: Record, number: u8) -> bool
     ensures { result ≡ marked rec.marks number }
 {
-    (1..=99).contains(&number) && rec.marks[number as usize - 1]
+    (1..=99).contains(&number) && rec.marks[usize::from(number) - 1]
 }
 
 // No number above the total is marked.
@@ -49,7 +49,7 @@ fn none_above(rec: Record, total: u8) -> bool
     ensures { result ≡ none_above total rec.marks }
 {
     for k in total..99 {
-        if rec.marks[k as usize] {
+        if rec.marks[usize::from(k)] {
             return false;
         }
     }
@@ -68,7 +68,7 @@ fn mark_in(rec: Record, number: u8) -> Record
     requires { (1 ≤ number) × (number ≤ 99) }
     ensures { result.marks ≡ mark rec.marks number }
 {
-    let at = number as usize - 1;
+    let at = usize::from(number) - 1;
     let mut next = rec;
     next.marks[at] = true;
     next
@@ -105,11 +105,11 @@ fn place(dst: &mut [u16], src: &[u8], order: u8)
 }
 
 // The same for what lies above: where the counts don't fill `dst`, it stays as it was.
-#[tactic(auto, using(crate::proofs::Copying::filling))]
+#[tactic(auto, unfolding(crate::specs::Counts::filled))]
 pub fn counts_into(dst: &mut [u16], src: &[u8], order: u8)
     ensures { dst.new ≡ filled order src.now dst.old }
 {
-    if (src.len() % 2 == 0) & (src.len() / 2 == dst.len()) {
+    if src.len() == dst.len() * 2 {
         place(dst, src, order);
     }
 }
@@ -206,7 +206,7 @@ pub fn offer(slate: Slate, rec: Record, frame: &mut [u16], file: &[u8]) -> Held
 fn line_good(slate: Slate, rec: Record, size: usize, line: Line) -> bool
     ensures { result ≡ line_good slate rec.marks size line.0 }
 {
-    slate.has_line(line) & none_above(rec, slate.total()) & (size == slate.frame_size())
+    slate.has_line(line) && none_above(rec, slate.total()) && size == slate.frame_size()
 }
 
 // That part of the frame if its segment is in, or else the first columns of the leader; empty if it is refused.
@@ -223,7 +223,7 @@ pub fn line_of<'a>(
     if !line_good(slate, rec, frame.len(), line) {
         return &[];
     }
-    let columns = slate.columns() as usize;
+    let columns = usize::from(slate.columns());
     if is_marked(rec, slate.cover_of(line)) {
         let at = slate.place_of(line, Column(1));
         return &frame[at..at + columns];

@@ -5,7 +5,7 @@ ghost use Rattle.std.specs.Result.{result_err};
 ghost use Rattle.rules.specs.Rules.{paper, paper_reply, fine, judge};
 ghost use Rattle.slate.specs.Cut.{height_in, height_of, lines_to, all_tall, good_cut};
 ghost use Rattle.slate.specs.Parts.{shot_parts, cut_parts, further, compare_all, comparing};
-ghost use Rattle.slate.specs.Slates.{good_slate, slated, kept_of, parts_of, blank, SlatedAs, size_of, start_of, frame_size, place_of, has_line, cover_or_0, matching, reason_of};
+ghost use Rattle.slate.specs.Slates.{good_shot, good_slate, slated, kept_of, parts_of, blank, SlatedAs, size_of, start_of, frame_size, place_of, has_line, cover_or_0, matching, reason_of};
 
 use accept::Facts;
 use rules::{Refusal, Why, require};
@@ -29,7 +29,7 @@ pub struct Slate {
     columns: u16,
     day: u32,
     area: u32,
-    // the lines of each segment; the room beyond the Nth is 0
+    // the lines of each segment; the room beyond the Nth is 0: of a fixed length beside N, since there is no heap
     heights: [u16; 99],
 }
 
@@ -76,7 +76,8 @@ impl Slate {
 
     pub const MOST_LINES: u32 = 22000;
 
-    // The slate of these parts, or refusal 13. What stands beyond the Nth height is ignored.
+    // The slate of these parts, or refusal 13. What stands beyond the Nth height is ignored. The parts are arguments one by one, as the
+    // paper has them: `parts_of` in its clause takes them so.
     #[tactic(auto, unfolding(rules::specs::Rules::after))]
     pub fn new(
         satellite: u8,
@@ -142,21 +143,27 @@ impl Slate {
     pub fn is_good(self) -> bool
         ensures { result ≡ good_slate self }
     {
-        ((self.satellite == 8) | (self.satellite == 9))
-            & ((Self::FIRST_DAY <= self.day) & (self.day <= Self::LAST_DAY))
-            & calendar::good_timeline(self.timeline)
-            & ((1 <= self.band) & (self.band <= Self::LAST_BAND))
-            & format::good_area(self.area.to_bytes(1))
-            & ((1 <= self.columns) & (self.columns <= Self::MOST_COLUMNS))
-            & ((1 <= self.total) & (self.total <= Self::MOST_SEGMENTS))
-            & self.good_cut()
+        self.good_shot()
+            && (1..=Self::MOST_COLUMNS).contains(&self.columns)
+            && (1..=Self::MOST_SEGMENTS).contains(&self.total)
+            && self.good_cut()
+    }
+
+    fn good_shot(self) -> bool
+        ensures { result ≡ good_shot self }
+    {
+        (self.satellite == 8 || self.satellite == 9)
+            && (Self::FIRST_DAY..=Self::LAST_DAY).contains(&self.day)
+            && calendar::good_timeline(self.timeline)
+            && (1..=Self::LAST_BAND).contains(&self.band)
+            && format::good_area(self.area.to_bytes(1))
     }
 
     #[tactic(auto, unfolding(crate::specs::Cut::good_cut))]
     fn good_cut(self) -> bool
         ensures { result ≡ good_cut self }
     {
-        self.all_tall() & (self.lines_to(self.total) <= Self::MOST_LINES)
+        self.all_tall() && self.lines_to(self.total) <= Self::MOST_LINES
     }
 
     // Each segment has a line.
@@ -187,7 +194,7 @@ impl Slate {
     {
         let mut sum = 0;
         for k in 0..n {
-            sum += height_in(&self.heights, k + 1) as u32;
+            sum += u32::from(height_in(&self.heights, k + 1));
         }
         sum
     }
@@ -208,7 +215,7 @@ impl Slate {
     pub fn size_of(self, k: u8) -> usize
         ensures { result ≡ size_of self k }
     {
-        product(self.height_of(k) as u32, self.columns)
+        product(u32::from(self.height_of(k)), self.columns)
     }
 
     // Where segment k begins in the frame.
@@ -229,15 +236,15 @@ impl Slate {
     pub fn place_of(self, line: Line, column: Column) -> usize
         ensures { result ≡ place_of self line.0 column.0 }
     {
-        product(line.0.saturating_sub(1) as u32, self.columns) + column.0.saturating_sub(1) as usize
+        product(u32::from(line.0.saturating_sub(1)), self.columns)
+            + usize::from(column.0.saturating_sub(1))
     }
 
     // Whether the slate is good and the line one of its frame's.
     pub fn has_line(self, line: Line) -> bool
         ensures { result ≡ has_line self line.0 }
     {
-        let n = line.0 as u32;
-        self.is_good() & ((1 <= n) & (n <= self.lines_to(self.total)))
+        self.is_good() && (1..=self.lines_to(self.total)).contains(&u32::from(line.0))
     }
 
     // The number of the segment that covers a line; 0 where there is none.
@@ -248,10 +255,10 @@ impl Slate {
         if !self.has_line(line) {
             return 0;
         }
-        let n = line.0 as u32;
+        let n = u32::from(line.0);
         let mut sum = 0;
         for k in 1..self.total {
-            sum += height_in(&self.heights, k) as u32;
+            sum += u32::from(height_in(&self.heights, k));
             if n <= sum {
                 return k;
             }
@@ -289,23 +296,31 @@ impl Slate {
     fn compare_shot(self, f: Facts) -> Result<(), Difference>
         ensures { result_err result ≡ compare_all None (shot_parts self f) }
     {
-        same(Part::Satellite, self.satellite as u64, f.satellite as u64)?;
-        same(Part::Day, self.day as u64, f.day as u64)?;
-        same(Part::Timeline, self.timeline as u64, f.timeline as u64)?;
-        same(Part::Band, self.band as u64, f.band as u64)?;
-        same(Part::Area, self.area as u64, f.area as u64)
+        same(
+            Part::Satellite,
+            u64::from(self.satellite),
+            u64::from(f.satellite),
+        )?;
+        same(Part::Day, u64::from(self.day), u64::from(f.day))?;
+        same(
+            Part::Timeline,
+            u64::from(self.timeline),
+            u64::from(f.timeline),
+        )?;
+        same(Part::Band, u64::from(self.band), u64::from(f.band))?;
+        same(Part::Area, u64::from(self.area), u64::from(f.area))
     }
 
     #[tactic(auto, unfolding(crate::specs::Parts::cut_parts))]
     fn compare_cut(self, f: Facts) -> Result<(), Difference>
         ensures { result_err result ≡ compare_all None (cut_parts self f) }
     {
-        let height = self.height_of(f.number) as u64;
-        let first = self.lines_to(f.number.saturating_sub(1)) as u64 + 1;
-        same(Part::Columns, self.columns as u64, f.columns as u64)?;
-        same(Part::Total, self.total as u64, f.total as u64)?;
-        same(Part::Lines, height, f.lines as u64)?;
-        same(Part::FirstLine, first, f.first as u64)
+        let height = u64::from(self.height_of(f.number));
+        let first = u64::from(self.lines_to(f.number.saturating_sub(1))) + 1;
+        same(Part::Columns, u64::from(self.columns), u64::from(f.columns))?;
+        same(Part::Total, u64::from(self.total), u64::from(f.total))?;
+        same(Part::Lines, height, u64::from(f.lines))?;
+        same(Part::FirstLine, first, u64::from(f.first))
     }
 }
 
@@ -332,7 +347,7 @@ fn height_in(heights: &[u16; 99], k: u8) -> u16
     ensures { result ≡ height_in heights.now k }
 {
     if (1..=99).contains(&k) {
-        heights[k as usize - 1]
+        heights[usize::from(k) - 1]
     } else {
         0
     }
@@ -344,7 +359,7 @@ fn kept(total: u8, heights: [u16; 99]) -> [u16; 99]
     ensures { result ≡ kept_of total heights }
 {
     let mut room = [0; 99];
-    let n = total.min(99) as usize;
+    let n = usize::from(total.min(99));
     room[..n].copy_from_slice(&heights[..n]);
     room
 }
