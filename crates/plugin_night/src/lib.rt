@@ -2,9 +2,10 @@
 // Night totals for C, thin over the proved library: a run by value.
 ghost use Rattle.std.specs.Prelude.{◌≡◌};
 ghost use Rattle.night.specs.Runs.{added, run_after, extra_after};
-ghost use Rattle.plugin_night.specs.Night.{run_in, run_out, shown_night};
+ghost use Rattle.plugin_night.specs.Night.{run_in, shown_night};
 
-use night::Run;
+use night::{Added, Run};
+use plugin::HsdAnswer;
 use totals::Totals;
 
 // The place in `refused` is the refusal's number.
@@ -31,37 +32,62 @@ pub struct HsdNight {
     pub run: HsdRun,
 }
 
-fn run_in(run: HsdRun) -> Run
-    ensures { result ≡ run_in run }
-{
-    let totals = Totals {
-        radiance: run.radiance,
-        error: run.error,
-        outside: run.outside,
-        over: run.over,
-        uncalibrated: run.uncalibrated,
-    };
-    let refused = run.refused;
-    Run {
-        totals,
-        accepted: run.accepted,
-        refused,
+impl From<HsdRun> for Run {
+    ghost use Rattle.plugin_night.specs.Night.{run_in};
+
+    fn from(run: HsdRun) -> Run
+        ensures { result ≡ run_in run }
+    {
+        let refused = run.refused;
+        Run {
+            totals: Totals {
+                radiance: run.radiance,
+                error: run.error,
+                outside: run.outside,
+                over: run.over,
+                uncalibrated: run.uncalibrated,
+            },
+            accepted: run.accepted,
+            refused,
+        }
     }
 }
 
-fn run_out(run: Run) -> HsdRun
-    ensures { result ≡ run_out run }
-{
-    let t = run.totals;
-    let refused = run.refused;
-    HsdRun {
-        radiance: t.radiance,
-        error: t.error,
-        outside: t.outside,
-        over: t.over,
-        uncalibrated: t.uncalibrated,
-        accepted: run.accepted,
-        refused,
+impl From<Run> for HsdRun {
+    ghost use Rattle.plugin_night.specs.Night.{run_out};
+
+    fn from(run: Run) -> HsdRun
+        ensures { result ≡ run_out run }
+    {
+        let t = run.totals;
+        let refused = run.refused;
+        HsdRun {
+            radiance: t.radiance,
+            error: t.error,
+            outside: t.outside,
+            over: t.over,
+            uncalibrated: t.uncalibrated,
+            accepted: run.accepted,
+            refused,
+        }
+    }
+}
+
+impl From<Added> for HsdNight {
+    ghost use Rattle.rules.specs.Rules.{paper};
+    ghost use Rattle.plugin_night.specs.Night.{shown_night};
+
+    fn from(added: Added) -> HsdNight
+        ensures { result ≡ shown_night (paper added.verdict) added.extra added.run }
+    {
+        let answer = HsdAnswer::from(added.verdict);
+        HsdNight {
+            refusal: answer.refusal,
+            block: answer.block,
+            offset: answer.offset,
+            extra: added.extra,
+            run: HsdRun::from(added.run),
+        }
     }
 }
 
@@ -69,15 +95,5 @@ fn run_out(run: Run) -> HsdRun
 pub fn hsd_night_add(run: HsdRun, file: &[u8]) -> HsdNight
     ensures { result ≡ shown_night (added (run_in run) file.now) (extra_after (run_in run) file.now) (run_after (run_in run) file.now) }
 {
-    let added = night::add(run_in(run), file);
-    let extra = added.extra;
-    let verdict = added.verdict;
-    let answer = plugin::answer_of(verdict);
-    HsdNight {
-        refusal: answer.refusal,
-        block: answer.block,
-        offset: answer.offset,
-        extra,
-        run: run_out(added.run),
-    }
+    HsdNight::from(night::add(Run::from(run), file))
 }
