@@ -1,19 +1,12 @@
 #![tactic(auto)]
 // What the format settles by name: satellites, areas, the sixteen bands, sizes, segments, and the file's own name.
-ghost use Rattle.std.specs.Prelude.{◌≡◌, [], ◌∷◌, ◌+◌, ◌-◌, ◌%◌, ◌≤◌};
-ghost use Rattle.wire.specs.Wire.{span, Stored};
+ghost use Rattle.std.specs.Prelude.{◌≡◌, ◌+◌, ◌-◌, ◌%◌, ◌≤◌};
+ghost use Rattle.std.specs.List.{list_all};
 ghost use Rattle.calendar.specs.Dates.{paper_day};
 ghost use Rattle.format.specs.Texts.{digit, pair, decimal};
 ghost use Rattle.format.specs.Ranges.{satellite_of, series, good_area, good_size, good_total, good_number, good_first};
 ghost use Rattle.format.specs.Bands.{good_band, band_of};
-ghost use Rattle.format.specs.Names.{digits8, date_of, day_or_0, spelling, name_for, good_name};
-
-// Whether a byte is a decimal digit.
-fn is_digit(b: u8) -> bool
-    ensures { result ≡ digit b }
-{
-    (b'0'..=b'9').contains(&b)
-}
+ghost use Rattle.format.specs.Names.{date_of, day_or_0, name_for, good_name};
 
 // How far a byte stands above the digit 0.
 fn above_zero(b: u8) -> u32
@@ -47,7 +40,7 @@ pub fn satellite_of(text: [u8; 16]) -> u8
 fn in_series(area: [u8; 4], x: u8, y: u8, n: u32) -> bool
     ensures { result ≡ series area x y n }
 {
-    let digits = is_digit(area[2]) && is_digit(area[3]);
+    let digits = area[2].is_ascii_digit() && area[3].is_ascii_digit();
     area[0] == x && area[1] == y && digits && (1..=n).contains(&pair_of(area[2], area[3]))
 }
 
@@ -137,29 +130,24 @@ pub fn band_of(band: u16) -> Band
     }
 }
 
-// Whether a name's yyyymmdd are digits.
-fn has_digits(name: [u8; 128]) -> bool
-    ensures { result ≡ digits8 name }
+fn are_digits(text: [u8; 8]) -> bool
+    ensures { result ≡ list_all digit text }
 {
-    let year = is_digit(name[7]) & (is_digit(name[8]) & (is_digit(name[9]) & is_digit(name[10])));
-    let month = is_digit(name[11]) & is_digit(name[12]);
-    let day = is_digit(name[13]) & is_digit(name[14]);
-    year & (month & day)
+    text.iter().all(|byte| byte.is_ascii_digit())
 }
 
 // The day that a name tells.
-#[tactic(auto, unfolding(crate::specs::Names::date_of, calendar::specs::Dates::paper_day))]
+#[tactic(auto, using(crate::proofs::Digits::eight_digits), unfolding(crate::specs::Names::date_of, calendar::specs::Dates::paper_day))]
 pub fn date_of(name: [u8; 128]) -> Option<u32>
     ensures { paper_day result ≡ date_of name }
 {
+    if !are_digits(wire::bytes_at(&name, 7)) {
+        return None;
+    }
     let year = pair_of(name[7], name[8]) * 100 + pair_of(name[9], name[10]);
     let month = pair_of(name[11], name[12]);
     let day = pair_of(name[13], name[14]);
-    if has_digits(name) {
-        calendar::day_of(year, month, day)
-    } else {
-        None
-    }
+    calendar::day_of(year, month, day)
 }
 
 // The day, and 0 where there is none.
@@ -191,38 +179,8 @@ pub fn decimal<const W: usize>(x: u32) -> [u8; W]
     digits
 }
 
-// Stores a name but for its zero bytes.
-fn spell(
-    out: &mut [u8],
-    satellite: u8,
-    date: [u8; 8],
-    timeline: u16,
-    band: u16,
-    area: [u8; 4],
-    number: u8,
-    total: u8,
-)
-    ensures { Stored 43 out.old 0 (spelling satellite date timeline band area number total) out.new }
-{
-    wire::put_bytes(out, 0, *b"HS_H");
-    wire::put_bytes(out, 4, decimal::<2>(u32::from(satellite)));
-    wire::put_byte(out, 6, b'_');
-    wire::put_bytes(out, 7, date);
-    wire::put_byte(out, 15, b'_');
-    wire::put_bytes(out, 16, decimal::<4>(u32::from(timeline)));
-    wire::put_bytes(out, 20, *b"_B");
-    wire::put_bytes(out, 22, decimal::<2>(u32::from(band)));
-    wire::put_byte(out, 24, b'_');
-    wire::put_bytes(out, 25, area);
-    wire::put_bytes(out, 29, *b"_R");
-    wire::put_bytes(out, 31, decimal::<2>(u32::from(band_of(band).resolution)));
-    wire::put_bytes(out, 33, *b"_S");
-    wire::put_bytes(out, 35, decimal::<2>(u32::from(number)));
-    wire::put_bytes(out, 37, decimal::<2>(u32::from(total)));
-    wire::put_bytes(out, 39, *b".DAT");
-}
-
-// The name that the header's values spell.
+// The name that the header's values spell, and zero bytes. The values come one by one, from three blocks: a struct of them would be filled at one
+// place, the check of a file's name.
 pub fn name_for(
     satellite: u8,
     date: [u8; 8],
@@ -234,9 +192,28 @@ pub fn name_for(
 ) -> [u8; 128]
     ensures { result ≡ name_for satellite date timeline band area number total }
 {
-    let mut n = [0u8; 128];
-    spell(&mut n, satellite, date, timeline, band, area, number, total);
-    n
+    let mut name = [0; 128];
+    wire::put_bytes(&mut name, 0, *b"HS_H");
+    wire::put_bytes(&mut name, 4, decimal::<2>(u32::from(satellite)));
+    wire::put_byte(&mut name, 6, b'_');
+    wire::put_bytes(&mut name, 7, date);
+    wire::put_byte(&mut name, 15, b'_');
+    wire::put_bytes(&mut name, 16, decimal::<4>(u32::from(timeline)));
+    wire::put_bytes(&mut name, 20, *b"_B");
+    wire::put_bytes(&mut name, 22, decimal::<2>(u32::from(band)));
+    wire::put_byte(&mut name, 24, b'_');
+    wire::put_bytes(&mut name, 25, area);
+    wire::put_bytes(&mut name, 29, *b"_R");
+    wire::put_bytes(
+        &mut name,
+        31,
+        decimal::<2>(u32::from(band_of(band).resolution)),
+    );
+    wire::put_bytes(&mut name, 33, *b"_S");
+    wire::put_bytes(&mut name, 35, decimal::<2>(u32::from(number)));
+    wire::put_bytes(&mut name, 37, decimal::<2>(u32::from(total)));
+    wire::put_bytes(&mut name, 39, *b".DAT");
+    name
 }
 
 // Whether a name spells the header's values, with a real date.
