@@ -1,5 +1,4 @@
 -- The laws of the loops.
 pub mod Digits
 pub mod Heights
-pub mod NoNan
 pub mod Parts

@@ -51,3 +51,5 @@ module _ (s : List ℕ) (i : ℕ) (h : length s ≤ i) where
   pub behind_end : (k : ℕ) → behind_of (drop i s) k ≡ []
   unfolding behind_of
   behind_end k = rw drop_of_length-le
+
+pub ruleset behinds = (behind_all, behind_one, behind_same, behind_end)

@@ -74,6 +74,7 @@ pub(crate) fn ahead(word: &[u8]) -> &[u8]
 }
 
 // What stands behind k pluses; nothing, where there are fewer.
+#[tactic(auto, using(crate::proofs::Parts::behinds))]
 pub(crate) fn behind(word: &[u8], k: u8) -> &[u8]
     ensures { result.now ≡ behind_of word.now k }
 {
