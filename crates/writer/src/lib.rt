@@ -42,7 +42,8 @@ fn write_column<const N: usize, W: Word<N>>(
     }
 }
 
-// The blocks with entries. Blocks 9 and 10 stay two functions: their lengths differ in width, and so do the columns.
+// The blocks with entries. Blocks 9 and 10 stay two functions: one over the widths of a length and of a column
+// would take three parameters more, and be no plainer.
 fn write8(out: &mut [u8], order: u8, v: Block8, lines: &[u16], xs: &[u32], ys: &[u32])
     requires { (length lines.now ≤ 6547) × (length xs.now ≡ length lines.now) × (length ys.now ≡ length lines.now) }
     ensures { Stored (length8 (length lines.now)) out.old at8
@@ -148,17 +149,11 @@ fn check_placed(h: Header, e: Lent<'_>, n: usize) -> Result<(), Refusal>
     check_lengths(9, 6549, e.lines9.len(), e.times.len())?;
     check_lengths(10, 65535, e.lines10.len(), e.pixels.len())?;
     accept::check_name(h.block1, h.block5, h.block7)?;
-    let (a, b, c) = (
-        e.lines8.len() as u16,
-        e.lines9.len() as u16,
-        e.lines10.len() as u16,
-    );
-    rules::require(
-        header::header_length(a, b, c) as usize <= n,
-        Why::Room,
-        0,
-        0,
-    )
+    let a = e.lines8.len() as u16;
+    let b = e.lines9.len() as u16;
+    let c = e.lines10.len() as u16;
+    let least = header::header_length(a, b, c) as usize;
+    rules::require(least <= n, Why::Room, 0, 0)
 }
 
 // Judges the values and entries that a header is to be written of, and the room of n bytes.
