@@ -38,6 +38,7 @@ impl From<HsdRun> for Run {
     fn from(run: HsdRun) -> Run
         ensures { result ≡ run_in run }
     {
+        // The borrow checker takes an array from field to field only by way of a name.
         let refused = run.refused;
         Run {
             totals: Totals {
@@ -60,6 +61,7 @@ impl From<Run> for HsdRun {
         ensures { result ≡ run_out run }
     {
         let t = run.totals;
+        // The borrow checker takes an array from field to field only by way of a name.
         let refused = run.refused;
         HsdRun {
             radiance: t.radiance,

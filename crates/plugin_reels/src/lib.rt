@@ -44,7 +44,7 @@ impl From<Result<u16, Refusal>> for HsdReel {
     }
 }
 
-// Where a file stands in a reel.
+// Where a file stands in a reel, as `reel` says it; a type of its own, since C's layout is fixed here.
 #[repr(C)]
 #[derive(Clone, Copy)]
 pub struct HsdPart {

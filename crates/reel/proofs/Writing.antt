@@ -50,7 +50,7 @@ pub cut_end : (s : List ℕ) (at : ℕ) (ls : List ℕ) (i : ℕ) → length ls 
 unfolding cut_up filed
 cut_end s at ls i h = rw (drop_of_length-le ls h)
 
-pub ruleset cutting = (cut_stop, cut_next, cut_end)
+pub ruleset cutting = (summing, cut_stop, cut_next, cut_end)
 
 pub entries_next : (ls : List ℕ) (at i from : ℕ) {l m out : List ℕ} → i < length ls → Stored 4 l (at + 8 * i) (digits 0 4 from) m → Stored 4 m (at + 8 * i + 4) (digits 0 4 (get_or ls i 0)) out
     → store out (at + 8 * (i + 1)) (entries (from + get_or ls i 0) (drop (i + 1) ls)) ≡ store l (at + 8 * i) (entries from (drop i ls))

@@ -185,7 +185,7 @@ fn good_list(files: &[u8], lengths: &[u32]) -> bool
 // The checks of the files, one after the other.
 #[tactic(auto, using(crate::proofs::Writing::cutting))]
 fn check_cut(files: &[u8], lengths: &[u32]) -> Result<(), Refusal>
-    requires { length lengths.now ≤ 65535 }
+    requires { sum_of lengths.now ≡ length files.now }
     ensures { paper result ≡ judge fine (filed (listed files.now lengths.now)) }
 {
     let mut at = 0;
