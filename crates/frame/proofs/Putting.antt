@@ -1,14 +1,13 @@
--- Laws for `put` and `offer`: a lent part that comes back, and what it means that a file is placed.
+-- Laws for `offer`: what it means that a file is placed.
 -- Assumes nothing.
-use mathlib.Core.Path.{◌≡◌, refl, sym, ap, ◌∙◌}
+use mathlib.Core.Path.{◌≡◌, refl, ◌∙◌}
 use mathlib.Core.Bool.{Bool, true}
-use mathlib.Core.List.{List, [], ◌∷◌, ◌++◌, append_assoc}
-use Prim.Native.Nat.{ℕ, ◌+◌, ◌*◌, ◌-◌, ◌≤◌}
+use mathlib.Core.List.{List, [], ◌∷◌}
+use Prim.Native.Nat.{ℕ, ◌+◌, ◌*◌, ◌≤◌}
 use native.Mathlib.Nat.{mul_comm, le_trans}
 use native.Mathlib.Omega.{arith}
-use borrow.Rule.Slice.PartMut.{put_mid, Post-is}
 use borrow.Author.Tests.{eqb-true}
-use lib.ListN.{length, take, drop, length-drop}
+use lib.ListN.{length, drop, length-drop}
 use Rattle.rules.specs.Rules.{fine, judge}
 use Rattle.rules.proofs.Judge.{exactly, each_is}
 use Rattle.header.specs.Places.{length_of}
@@ -23,13 +22,7 @@ use Rattle.slate.proofs.Cuts.{good, strip_room}
 use Rattle.slate.proofs.Parts.{same_exactly}
 use Rattle.header.specs.Values.{block1_of}
 use Rattle.frame.specs.Counts.{counts, counts_of}
-use Rattle.frame.specs.Frames.{put_at, ready, placing, offering, offered}
-
--- a part that was lent and came back
-pub put_mid_lem : (a n : ℕ) (xs ys : List ℕ) → length ys ≡ n → put_mid a (a + n - a) xs ys ≡ put_at xs a ys
-put_mid_lem a n xs ys l =
-    let q : a + n ≡ a + length ys = omega arith in
-    ap (λ (z : List ℕ). take a xs ++ (ys ++ z)) (Post-is a (a + n) xs (omega arith) ∙ ap (λ (n : ℕ). drop n xs) q) ∙ sym (append_assoc (take a xs) ys (drop (a + length ys) xs))
+use Rattle.frame.specs.Frames.{ready, placing, offering, offered}
 
 -- ---- an accepted file that matches
 

@@ -4,7 +4,7 @@ use mathlib.Core.Path.{◌≡◌, refl}
 use mathlib.Core.Logic.{⊎_elim}
 use mathlib.Core.Bool.{Bool, true, false, cond, ◌&&◌, and-false, and-eq-true_iff}
 use Prim.Native.Nat.{ℕ, zero, suc, ◌+◌, ◌*◌, ◌-◌, ◌<◌, ◌≤◌}
-use native.Mathlib.Nat.{eq-or-lt_of_le, le_of_suc-le-suc, le_trans, mul-le-mul_left, mul-le-mul_right, suc-mul, add-mul}
+use native.Mathlib.Nat.{eq-or-lt_of_le, le_of_suc-le-suc, le_trans, mul-le-mul_right, suc-mul, add-mul}
 use native.Mathlib.Numerals.{add-one}
 use native.Mathlib.Omega.{arith}
 use lib.Dec.{leb, ltb}
@@ -13,10 +13,6 @@ use Rattle.format.specs.Ranges.{good_size, good_total}
 use Rattle.slate.specs.Cut.{height_of, lines_to, all_tall, good_cut, last_to, cover_of}
 use Rattle.slate.specs.Slates.{good_shot, good_slate, size_of, start_of, frame_lines, frame_size, has_line, cover_or_0}
 use Rattle.slate.specs.declared.Slate.{Slate}
-
--- a product of two bounded numbers
-pub mul_most : (a b m n : ℕ) → a ≤ m → b ≤ n → a * b ≤ m * n
-mul_most a b m n ha hb = le_trans (mul-le-mul_left a hb) (mul-le-mul_right n ha)
 
 -- what grows from each number to the next grows from each to every later one
 pub rising : (f : ℕ → ℕ) → ((n : ℕ) → f n ≤ f (suc n)) → (k n : ℕ) → k ≤ n → f k ≤ f n
