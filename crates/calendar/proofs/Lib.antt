@@ -1,5 +1,4 @@
 -- The laws that the proofs cite.
 pub mod Months
 pub mod Counted
-pub mod Signed
 pub mod Paper

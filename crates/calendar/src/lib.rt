@@ -12,7 +12,7 @@ use rules::{Refusal, Why, require};
 fn is_leap(year: u32) -> bool
     ensures { result ≡ leap year }
 {
-    (year % 4 == 0) & ((year % 100 != 0) | (year % 400 == 0))
+    year % 4 == 0 && (year % 100 != 0 || year % 400 == 0)
 }
 
 #[tactic(auto, unfolding(crate::specs::Dates::month_length))]

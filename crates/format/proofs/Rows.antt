@@ -1,13 +1,14 @@
 -- The table of bands, by one test that antt computes over all its rows. Assumes nothing.
-use mathlib.Core.Path.{◌≡◌, sym, ◌∙◌}
-use mathlib.Core.Bool.{Bool, true, ◌&&◌, and-eq-true_iff}
+use mathlib.Core.Path.{◌≡◌}
+use mathlib.Core.Bool.{Bool, true, ◌&&◌}
 use mathlib.Core.List.{List, [], ◌∷◌}
 use Prim.Native.Nat.{ℕ, zero, suc, ◌+◌, ◌≤◌, ◌<◌}
 use native.Mathlib.Nat.{add-zero, zero-add, add-suc, suc-add, le_of_suc-le-suc, not-suc-le-zero}
-use lib.Dec.{T, eqb, eqb→eq, leb}
+use native.Mathlib.Omega.{arith}
+use lib.Dec.{T, eqb, eqb→eq}
 use lib.ListN.{length, get_or}
-use borrow.Author.Tests.{leb-true}
 use mir.Facts.{and_yes}
+use Rattle.std.proofs.lemmas.Grind.{common_steps}
 use Rattle.format.specs.declared.Band.{Band}
 use Rattle.format.specs.Bands.{good_band, bits_of, resolution_of}
 
@@ -27,9 +28,7 @@ from d (x ∷ xs) i t (suc k) h =
     rw add-suc (rw suc-add at (from d xs (suc i) (and_yes (right i x) (every (suc i) xs) t).1 k (le_of_suc-le-suc h)))
 
 pub band_is : {g : Bool} (b : ℕ) → g ≡ good_band b → g ≡ true → (1 ≤ b) × (b ≤ 16)
-band_is b e h =
-    let k = (and-eq-true_iff (leb 1 b) (leb b 16)).0 (sym e ∙ h) in
-    (leb-true 1 b k.0, leb-true b 16 k.1)
+band_is b e h = grind (arith, common_steps)
 
 -- so row k is that of band k + 1
 pub row_is : (xs : List Band) (k : ℕ) (d : Band) → k < length xs → T (every 0 xs) → get_or xs k d ≡ record { bits = bits_of (suc k); resolution = resolution_of (suc k) }
