@@ -45,8 +45,8 @@ fn write2(out: &mut [u8], order: u8, v: Block2)
     wire::put_bytes(out, 292, v.spare);
 }
 
-// A block that only carries N bytes: 3, 4, 6 or 11.
-pub fn write_carrying<const N: usize>(
+// A block that only carries N bytes: 3, 4 or 6.
+fn write_carrying<const N: usize>(
     out: &mut [u8],
     at: usize,
     number: u8,

@@ -4,7 +4,7 @@ ghost use Rattle.std.specs.Prelude.{◌≡◌, ◌<◌, ◌≤◌, length, map, 
 ghost use Rattle.wire.specs.Wire.{Stored};
 ghost use Rattle.rules.specs.Rules.{judge, tables, fine, paper};
 ghost use Rattle.header.specs.Places.{at8, length8, length9, length10};
-ghost use Rattle.header.specs.Encode.{bytes8, bytes9, bytes10};
+ghost use Rattle.header.specs.Encode.{carrying, bytes8, bytes9, bytes10};
 ghost use Rattle.writer.specs.Given.{lengths, parts, ruled, Wrote};
 ghost use Rattle.writer.specs.Sizes.{entries_from, scattered, bytes_of, Fits, StoredBack, StoredAll};
 ghost use Rattle.writer.specs.Lent.{lent};
@@ -89,6 +89,16 @@ fn write10(out: &mut [u8], at: usize, order: u8, spare: [u8; 40], lines: &[u16],
     wire::put_bytes(out, at + 7 + 4 * c, spare);
 }
 
+// Block 11. It only carries bytes, as 3, 4 and 6 do, and is stored here all the same: its place wants a bound, which no public function asks.
+fn write11(out: &mut [u8], at: usize, order: u8, spare: [u8; 256])
+    requires { at < 1000000 }
+    ensures { Stored 259 out.old at (carrying 11 order 259 spare) out.new }
+{
+    wire::put_byte(out, at, 11);
+    wire::put_number(out, at + 1, 259u16, order);
+    wire::put_bytes(out, at + 3, spare);
+}
+
 // Blocks 8 to 11, then the whole header, where every count and length has room in its field.
 fn write_back(out: &mut [u8], h: Header, e: Lent<'_>)
     requires { Fits h (lent e) }
@@ -109,7 +119,7 @@ fn write_back(out: &mut [u8], h: Header, e: Lent<'_>)
     );
     write9(out, at9, order, h.spare9, e.lines9, e.times);
     write10(out, at10, order, h.spare10, e.lines10, e.pixels);
-    blocks::write_carrying(out, header::place11(a, b, c), 11, order, h.spare11);
+    write11(out, header::place11(a, b, c), order, h.spare11);
 }
 
 fn write_all(out: &mut [u8], h: Header, e: Lent<'_>)

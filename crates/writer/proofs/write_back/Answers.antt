@@ -11,4 +11,4 @@ returns c =
     (next_at _ (omega arith) c.write8.ensures
     (next_at _ (omega arith) c.write9.ensures
     (next_at _ (omega arith) c.write10.ensures
-    (next c.write_carrying.ensures done))))
+    (next c.write11.ensures done))))
