@@ -41,7 +41,8 @@ pub struct Facts {
 
 // Each of these makes the checks of one table, in the table's order: the refusal's name stands for its number.
 // How a block starts: room for it, its number, and its length. `least` is the room that is wanted, `stated` the length that the block states,
-// and `full` the one that it is to have. No block begins at 2,000,000 or beyond, so that its place and its length's are offsets.
+// and `full` the one that it is to have. No block begins at 2,000,000 or beyond, so that its place and its length's are offsets: three
+// functions ask for it, and a type for such places would be no plainer, since header's places and every reader take plain numbers.
 #[tactic(auto, unfolding(crate::specs::Checks::begins))]
 fn check_start(
     s: &[u8],
@@ -67,8 +68,8 @@ fn check_shape(s: &[u8], order: u8, block: u8, at: usize, n: u16) -> Result<(), 
     ensures { paper result ≡ judge fine (shape s.now order block at n) }
 {
     let stated: u16 = wire::number_at(s, at + 1, order);
-    let full = n as usize;
-    check_start(s, block, at, stated as usize, full, full)
+    let full = usize::from(n);
+    check_start(s, block, at, usize::from(stated), full, full)
 }
 
 // A block with entries: `least` is its length without them, and `full` with them.
@@ -220,17 +221,17 @@ fn check_blocks5to7(s: &[u8], order: u8) -> Result<(), Refusal>
 fn check_blocks8to11(s: &[u8], order: u8, a: u16, b: u16, c: u16) -> Result<(), Refusal>
     ensures { paper result ≡ judge fine (blocks8to11 s.now order a b c) }
 {
-    let full8 = 61 + 10 * (a as usize);
-    let full9 = 45 + 10 * (b as usize);
-    let full10 = 47 + 4 * (c as usize);
+    let full8 = 61 + 10 * usize::from(a);
+    let full9 = 45 + 10 * usize::from(b);
+    let full10 = 47 + 4 * usize::from(c);
     let at9 = header::place9(a);
     let at10 = header::place10(a, b);
     let at11 = header::place11(a, b, c);
     let stated8: u16 = wire::number_at(s, 1052, order);
     let stated9: u16 = wire::number_at(s, at9 + 1, order);
     let stated10: u32 = wire::number_at(s, at10 + 1, order);
-    check_entries(s, 8, 1051, stated8 as usize, 61, full8)?;
-    check_entries(s, 9, at9, stated9 as usize, 45, full9)?;
+    check_entries(s, 8, 1051, usize::from(stated8), 61, full8)?;
+    check_entries(s, 9, at9, usize::from(stated9), 45, full9)?;
     check_entries(s, 10, at10, stated10 as usize, 47, full10)?;
     check_shape(s, order, 11, at11, 259)
 }

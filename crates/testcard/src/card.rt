@@ -31,15 +31,12 @@ fn moved_by(slot: u64) -> u32
 
 // The frame of a header's shot, of so many lines.
 pub(crate) fn frame_of(h: Header, lines: u32) -> Frame {
-    let block1 = h.block1;
-    let block2 = h.block2;
-    let block5 = h.block5;
-    let day = format::day_or_0(format::date_of(block1.name));
-    let slot = calendar::slot(day, block1.timeline).unwrap_or(0);
+    let day = format::day_or_0(format::date_of(h.block1.name));
+    let slot = calendar::slot(day, h.block1.timeline).unwrap_or(0);
     Frame {
-        columns: block2.columns,
+        columns: h.block2.columns,
         lines,
-        bits: block5.bits,
+        bits: h.block5.bits,
         moved: moved_by(slot),
     }
 }
@@ -68,36 +65,33 @@ fn squared(way: u32) -> u32
 }
 
 // The first of a level's 16 bits.
+#[tactic(auto, using(crate::proofs::Shades::shade))]
 fn scaled(level: u16, bits: u16) -> u16
     ensures { result < 2 ^ bits }
 {
-    if bits < 16 {
-        ((level as u32) >> (16 - bits)) as u16
-    } else {
-        level
-    }
+    (u32::from(level) >> 16u16.saturating_sub(bits)) as u16
 }
 
 // The count at a column and a line of the frame, both counted from 1.
 fn count_at(f: Frame, column: u32, line: u32) -> u16
     ensures { Shown f.bits result }
 {
-    let x = place(column, f.columns as u32);
+    let x = place(column, u32::from(f.columns));
     let y = place(line, f.lines);
     let out = squared(way(x)) + squared(way(y));
     if EDGE < out {
         return OUTSIDE;
     }
-    let light = (x as u64 + y as u64) / 2;
+    let light = (u64::from(x) + u64::from(y)) / 2;
     // 65,536 levels from ring to ring, as there are of light
-    let ring = (out as u64 + f.moved as u64) % RING / 2048;
+    let ring = (u64::from(out) + u64::from(f.moved)) % RING / 2048;
     scaled(((3 * light + ring) / 4) as u16, f.bits)
 }
 
 // Stores the counts of a line of the frame at the front of a buffer.
 pub(crate) fn draw(out: &mut [u8], f: Frame, line: u32, order: u8) {
     for i in 0..f.columns {
-        let count = count_at(f, i as u32 + 1, line);
-        wire::put_number(out, 2 * (i as usize), count, order);
+        let count = count_at(f, u32::from(i) + 1, line);
+        wire::put_number(out, 2 * usize::from(i), count, order);
     }
 }

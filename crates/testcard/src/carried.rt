@@ -113,7 +113,7 @@ fn dark(band: u16) -> f64 {
 }
 
 pub(crate) fn put_calibration(out: &mut [u8; 1463], band: u16, order: u8) {
-    let at = (band as usize + 15) % 16;
+    let at = (usize::from(band) + 15) % 16;
     let (wavelength, gain) = BANDS[at];
     reals::put(out, 603, &[wavelength], order);
     reals::put(out, 617, &[gain, -dark(band) * gain], order);

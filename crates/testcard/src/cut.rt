@@ -63,7 +63,7 @@ fn is_good(word: &[u8], total: u8) -> bool
     ensures { result ≡ good_cut word.now total }
 {
     let n = pluses(word);
-    let as_many = n == prior(total, total) as usize;
+    let as_many = n == usize::from(prior(total, total));
     (n == 0) | (as_many & (lines_to(word, total) <= 22000))
 }
 

@@ -41,17 +41,9 @@ fn send_counts(rt: &impl Print, f: Frame, first: u16, lines: u16, order: u8) -> 
 
 // Writes a header that the writer took, and its counts, of a frame of so many lines.
 fn send(rt: &impl Print, out: &[u8], h: Header, all: u32) -> io::Result<()> {
-    let block1 = h.block1;
-    let block2 = h.block2;
-    let block7 = h.block7;
+    let frame = card::frame_of(h, all);
     rt.write_all(out)?;
-    send_counts(
-        rt,
-        card::frame_of(h, all),
-        block7.first,
-        block2.lines,
-        block1.order,
-    )
+    send_counts(rt, frame, h.block7.first, h.block2.lines, h.block1.order)
 }
 
 fn main(rt: HostRuntime) -> io::Result<()> {
