@@ -53,8 +53,8 @@ flags_at m (suc n) k h =
 pub flags_from_each : (m : List ℕ) (marks : List Bool) → length marks ≡ 99 → ((k : ℕ) → k < 99 → get_or marks k false ≡ eqb (get_or m k 0) 1) → marks ≡ flags m 99
 flags_from_each m marks l e = ext_get_or false marks (flags m 99) (l ∙ sym (length_flags m 99)) (λ k h. let q : k < 99 = rw l at h in e k q ∙ sym (flags_at m 99 k q))
 
-pub marks_from_each : (marks : List Bool) (out : List ℕ) → length out ≡ 99 → ((k : ℕ) → k < 99 → get_or out k 0 ≡ one_of (get_or marks k false)) → out ≡ marks_out marks
-marks_from_each marks out l e = sym (tab_is _ 99 out l (λ k h. sym (e k h)))
+pub marks_from_each : (marks : List Bool) (out : List ℕ) (n : ℕ) → n ≡ 99 → length out ≡ n → ((k : ℕ) → k < n → get_or out k 0 ≡ one_of (get_or marks k false)) → out ≡ marks_out marks
+marks_from_each marks out n z l e = sym (tab_is _ 99 out (l ∙ z) (λ k h. sym (e k (omega arith))))
 
 -- ---- marks and slate: both are good, or SLATE is said before anything else
 
@@ -124,10 +124,6 @@ offer_strip_lem s m g frame f =
     ∙ ap (λ (r : Ruling). after r frame (frame_after (slate_in s) (marks_in m) frame f)) (sym (lent_good (good_marks m) (offering (slate_in s) (marks_in m) (length frame) f) g))
 
 -- ---- a line
-
-pub lent_asked : (s : HsdSlate) (m : List ℕ) → good_marks m ≡ true → (frame leader : List ℕ) (n : ℕ) → line_of (slate_in s) (marks_in m) frame leader n ≡ line_c s m frame leader n
-unfolding line_c
-lent_asked s m g frame leader n = rw g
 
 -- of an empty line nothing is copied
 pub none_copied : (out : List ℕ) → (0 ≡ copied_of [] out) × (out ≡ copy_of [] out)

@@ -136,7 +136,7 @@ fn copy(line: &[u16], out: &mut [u16]) -> usize
 }
 
 // Copies a line of the frame, or of the leader where its segment is missing, and answers how many counts these are.
-#[tactic(auto, using(crate::proofs::Lending::lent_line, crate::proofs::Lending::lent_asked, crate::proofs::Lending::none_copied))]
+#[tactic(auto, using(crate::proofs::Lending::lent_line, crate::proofs::Lending::none_copied), unfolding(crate::specs::Strips::line_c))]
 pub fn hsd_line<'a>(
     slate: HsdSlate,
     marks: &[u8],
