@@ -1,8 +1,6 @@
 -- What calls of the readers and of the writer gave. Assumes nothing.
-use Rattle.std.proofs.Common.{◌≡◌, sym, ap, ◌∙◌, List, [], ◌∷◌, ℕ, ◌≤◌, length, take, drop, take_at, le-leb}
-use Rattle.rules.specs.Rules.{Row, Ruling, tables, judge, fine, paper, after}
-use Rattle.rules.specs.declared.Verdict.{Verdict}
-use Rattle.rules.specs.declared.Verdict.TheVariants.{Fine}
+use Rattle.std.proofs.Common.{◌≡◌, sym, ap, ◌∙◌, List, [], ◌∷◌, ℕ, ◌≤◌, length, take, drop, take_at, le-leb, Ok}
+use Rattle.rules.specs.Rules.{Row, Ruling, tables, judge, fine, paper, after, Verdict}
 use Rattle.rules.proofs.Judge.{Holds, exactly, each_of, holds}
 use Rattle.rules.proofs.Paper.{paper_one}
 use Rattle.header.specs.declared.Header.{Header}
@@ -17,9 +15,8 @@ use Rattle.writer.specs.Given.{Wrote}
 use Rattle.tiling.proofs.Back.{long}
 use Rattle.promises.specs.Calls.{Read, all_four, Written, written}
 
-pub fine_is : (v : Verdict) → paper v ≡ fine → v ≡ Fine
-unfolding paper
-fine_is v e = paper_one v Fine e
+pub fine_is : (v : Verdict) → paper v ≡ fine → v ≡ Ok tt
+fine_is v e = paper_one v (Ok tt) e
 
 -- what stands first in a slice that was filled
 front : (r : Ruling) (n : ℕ) (new l out : List ℕ) → length new ≡ n → r ≡ fine → out ≡ filled r n new l → take n out ≡ new
@@ -28,14 +25,14 @@ front r n new l out h g e = rw (e, g) (take_at new (drop n l) n h)
 
 module _ (s : List ℕ) (g : judge fine (checks s) ≡ fine) where
   roomy : (rooms : List Row) → Holds rooms → read_ruling s rooms ≡ fine
-  roomy rooms h = (exactly (tables (checks s ∷ rooms ∷ []))).1 (each_of _ (holds ((exactly (checks s)).0 g) (holds h tt)))
+  roomy rooms h = (exactly (tables (checks s ∷ rooms ∷ []))).1 (each_of (checks s ∷ rooms ∷ []) (holds ((exactly (checks s)).0 g) (holds h tt)))
 
-  values : (r : HeaderRead) → ReadAs s r → (r.verdict ≡ Fine) × (r.header ≡ header_of s)
+  values : (r : HeaderRead) → ReadAs s r → (r.verdict ≡ Ok tt) × (r.header ≡ header_of s)
   unfolding after
   values r p = (fine_is r.verdict (p.says ∙ g), p.is ∙ rw g)
 
   shifts : (ls xs ys : List ℕ) (r : Verdict) (ls' xs' ys' : List ℕ) → Shifts s ls xs ys r ls' xs' ys' → a_of s ≤ length ls → a_of s ≤ length xs → a_of s ≤ length ys
-      → (r ≡ Fine) × (take (a_of s) ls' ≡ (entries_of s).lines8) × (take (a_of s) xs' ≡ (entries_of s).column_shifts) × (take (a_of s) ys' ≡ (entries_of s).line_shifts)
+      → (r ≡ Ok tt) × (take (a_of s) ls' ≡ (entries_of s).lines8) × (take (a_of s) xs' ≡ (entries_of s).column_shifts) × (take (a_of s) ys' ≡ (entries_of s).line_shifts)
   unfolding entries_of rooms3
   shifts ls xs ys r ls' xs' ys' p a b c =
       let q = roomy (rooms3 (a_of s) (length ls) (length xs) (length ys)) (holds (le-leb _ _ a) (holds (le-leb _ _ b) (holds (le-leb _ _ c) tt))) in (
@@ -46,7 +43,7 @@ module _ (s : List ℕ) (g : judge fine (checks s) ≡ fine) where
       )
 
   times : (ls ts : List ℕ) (r : Verdict) (ls' ts' : List ℕ) → Times s ls ts r ls' ts' → b_of s ≤ length ls → b_of s ≤ length ts
-      → (r ≡ Fine) × (take (b_of s) ls' ≡ (entries_of s).lines9) × (take (b_of s) ts' ≡ (entries_of s).times)
+      → (r ≡ Ok tt) × (take (b_of s) ls' ≡ (entries_of s).lines9) × (take (b_of s) ts' ≡ (entries_of s).times)
   unfolding entries_of rooms2
   times ls ts r ls' ts' p a b =
       let q = roomy (rooms2 (b_of s) (length ls) (length ts)) (holds (le-leb _ _ a) (holds (le-leb _ _ b) tt)) in (
@@ -56,7 +53,7 @@ module _ (s : List ℕ) (g : judge fine (checks s) ≡ fine) where
       )
 
   errors : (ls ps : List ℕ) (r : Verdict) (ls' ps' : List ℕ) → Errors s ls ps r ls' ps' → c_of s ≤ length ls → c_of s ≤ length ps
-      → (r ≡ Fine) × (take (c_of s) ls' ≡ (entries_of s).lines10) × (take (c_of s) ps' ≡ (entries_of s).pixels)
+      → (r ≡ Ok tt) × (take (c_of s) ls' ≡ (entries_of s).lines10) × (take (c_of s) ps' ≡ (entries_of s).pixels)
   unfolding entries_of rooms2
   errors ls ps r ls' ps' p a b =
       let q = roomy (rooms2 (c_of s) (length ls) (length ps)) (holds (le-leb _ _ a) (holds (le-leb _ _ b) tt)) in (
@@ -67,8 +64,8 @@ module _ (s : List ℕ) (g : judge fine (checks s) ≡ fine) where
 
 -- where no check fails, the four readers give the file's values and entries
 pub record Got (s : List ℕ) (w : Verdict) (ws : List Verdict) (v : Header) (e : Entries) : Type 0 where
-  pub first : w ≡ Fine
-  pub others : ws ≡ Fine ∷ Fine ∷ Fine ∷ []
+  pub first : w ≡ Ok tt
+  pub others : ws ≡ Ok tt ∷ Ok tt ∷ Ok tt ∷ []
   pub header : v ≡ header_of s
   pub entries : e ≡ entries_of s
 
@@ -93,9 +90,8 @@ got {s} (all_four κ₁ a₁ r₁ t₁ p₁ e₁ κ₈ a₈ r₈ t₈ p₈ e₈ 
       };
     }
 
--- where the first reader says Fine, no check fails
-pub fine_read : {s : List ℕ} {w : Verdict} {ws : List Verdict} {v : Header} {e : Entries} → Read s w ws v e → w ≡ Fine → judge fine (checks s) ≡ fine
-unfolding paper
+-- where the first reader says Ok, no check fails
+pub fine_read : {s : List ℕ} {w : Verdict} {ws : List Verdict} {v : Header} {e : Entries} → Read s w ws v e → w ≡ Ok tt → judge fine (checks s) ≡ fine
 fine_read (all_four κ₁ a₁ r₁ t₁ p₁ e₁ κ₈ a₈ r₈ t₈ p₈ e₈ l₈ x₈ y₈ κ₉ a₉ r₉ t₉ p₉ e₉ l₉ x₉ κ a r t p e l x) q =
     ap (λ (s : List ℕ). judge fine (checks s)) (sym e₁) ∙ sym p₁.says ∙ ap paper q
 

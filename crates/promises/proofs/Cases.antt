@@ -1,9 +1,9 @@
 -- The P cases of document 01. Assumes nothing.
-use Rattle.std.proofs.Common.{◌≡◌, refl, ap, ◌∙◌, Bool, true, false, ◌&&◌, List, [], ◌∷◌, ℕ, arith, leb, ℤ, Float, get_or}
+use Rattle.std.proofs.Common.{◌≡◌, refl, ap, ◌∙◌, Bool, true, false, ◌&&◌, List, [], ◌∷◌, ℕ, arith, leb, ℤ, Float, get_or, length, drop}
 use lib.Ieee.{add, mul, of_int}
 use Rattle.wire.specs.Wire.{span, eqs}
 use Rattle.wire.proofs.Pieces.{span_span}
-use Rattle.rules.specs.Rules.{turned, fine, refused, judge, First, here, tables, placeless, checked, Reply, refuses, reply}
+use Rattle.rules.specs.Rules.{turned, fine, refused, judge, First, here, tables, placeless, Reply, refuses}
 use Rattle.rules.proofs.Judge.{exactly, each_is, holds, first_fails, first_table, judge_unplaced}
 use Rattle.calendar.specs.Dates.{day_of}
 use Rattle.calendar.specs.Shots.{slot_at, shot, shots, slot_of, film_frame_of}
@@ -18,19 +18,19 @@ use Rattle.header.specs.Places.{order_of, a_of, b_of, c_of, header_length, lengt
 use Rattle.header.specs.Values.{block1_of, block2_of, block5_of, block7_of}
 use Rattle.accept.specs.Checks.{sums, names, ends, blocks1to4, blocks5to7, blocks8to11, whole, checks}
 use Rattle.accept.specs.Answers.{answer_of}
-use Rattle.writer.specs.Given.{lengths8, given}
+use Rattle.writer.specs.Given.{lengths8, parts, given}
 use Rattle.writer.proofs.Good.{good_is}
 use Rattle.tiling.specs.Lawful.{text}
 use Rattle.promises.specs.Cases.{Holds, header, count, date, name, slot, film, unwritten8, before8, others, All, table}
 
 -- 6,548 entries of block 8
 too_many : Holds (unwritten8 6548 (turned 4 8 0))
-unfolding given lengths8 placeless
+unfolding given lengths8
 too_many v e n long = (
   λ q. let few = (good_is v e n q).0.fits.few8 in absurd (omega arith),
   λ q.
       let h = each_is (before8 v) ((exactly (tables (before8 v))).0 q) in
-      judge_unplaced fine _ ∙ ap placeless ((first_fails _ (turned 4 8 0)).1 (first_table (before8 v) _ _ h (here (ap (λ (a : ℕ). leb a 6547) long)))),
+      judge_unplaced fine _ ∙ ap placeless ((first_fails _ (turned 4 8 0)).1 (first_table (before8 v) (lengths8 (length e.lines8) (length e.column_shifts) (length e.line_shifts)) (drop 6 (parts v e n)) h (here (ap (λ (a : ℕ). leb a 6547) long)))),
 )
 
 -- a name that bears 20230229
@@ -50,7 +50,7 @@ no_name v w x e =
     here (fails (eqs v.name (name_for (satellite_of v.satellite) (span v.name 7 8) v.timeline w.band v.area x.number x.total)) (is_day (date_of v.name)) e)
 
 february : Holds (name (text "20230229") (turned 10 1 114))
-unfolding answer_of reply checks whole block1_of
+unfolding answer_of checks whole block1_of
 february s q e =
     let o = order_of s in
     let h = each_is (others s) ((exactly (tables (others s))).0 q) in
@@ -82,5 +82,5 @@ on_film e κ x z w p a b c d = p ∙ (λ i. film_frame_of (a i) (b i) (c i) (d i
 
 -- every line of the table holds
 pub every_case : All table
-unfolding add mul of_int day_of slot_at shot shots slot_of film_frame_of lengths8 checked reply
+unfolding add mul of_int day_of slot_at shot shots slot_of film_frame_of lengths8
 every_case = (on_header refl, (on_header refl, (refl, (refl, (too_many, (refl, (refl, (on_header refl, (on_count refl, (on_count refl, (on_count refl, (on_count refl, (on_count refl, (on_date refl, (on_date refl, (february, (on_slot refl, (on_film refl, (on_film refl, tt)))))))))))))))))))

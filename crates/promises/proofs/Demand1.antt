@@ -3,23 +3,23 @@
 -- That every input has one answer is the contracts' having no `requires`, and OneAnswer.
 -- Assumes nothing.
 use Rattle.std.proofs.Common.{◌≡◌, refl, sym, ap, ◌∙◌, Bool, true, false, cond, List, [], ◌∷◌, ℕ, ◌+◌, ◌*◌, ◌≤◌, arith, length, get_or, pos}
-use Rattle.rules.specs.Rules.{Turned, turned, Row, fine, says, refused, refuses, judge, tables, unplaced, paper}
+use Rattle.rules.specs.Rules.{Turned, turned, Row, fine, says, refused, refuses, judge, tables, unplaced, paper, paper_reply}
 use Rattle.calendar.specs.Dates.{real, day_at, paper_day, day_of}
-use Rattle.calendar.specs.Shots.{shot, paper_slot, slot_of, shots, paper_frame, film_frame_of}
+use Rattle.calendar.specs.Shots.{shot, slot_of, shots, film_frame_of}
 use Rattle.format.specs.Texts.{pair}
 use Rattle.format.specs.Names.{digits8, date_of}
 use Rattle.header.specs.Places.{a_of, b_of, c_of}
 use Rattle.header.specs.Values.{header_of}
 use Rattle.accept.specs.Checks.{shape, entries, shape1, fields1, fixed2, fields2, fixed5, fields5, fields7, sums, names, ends, blocks1to4, blocks5to7, blocks8to11, whole, checks}
-use Rattle.accept.specs.Answers.{facts_of, paper_answer, answer_of}
-use Rattle.slate.specs.Slates.{slated, blank, asking, paper_reason, reason_of}
+use Rattle.accept.specs.Answers.{facts_of, answer_of}
+use Rattle.slate.specs.Slates.{slated, blank, asking, reason_of}
 use Rattle.frame.specs.Frames.{opening, open_frame, ready, placing, offering, record_after, frame_after}
 use Rattle.frame.specs.Lines.{shown}
 use Rattle.frame.proofs.Asking.{line_length, line_some}
 use Rattle.frame.proofs.line_of.Reads as line_of
 use Rattle.writer.specs.Given.{orders, lengths8, lengths9, lengths10, room, given}
 use Rattle.reader.specs.Reads.{rooms2, rooms3, filled}
-use Rattle.reel.specs.Reels.{filed, paper_opened, opened}
+use Rattle.reel.specs.Reels.{filed, opened}
 use Rattle.reel.specs.Reels as reels
 use Rattle.reel.specs.Writing.{writing, written}
 use Rattle.plugin.specs.declared.HsdAnswer.{HsdAnswer}
@@ -71,7 +71,7 @@ use Rattle.promises.proofs.Refusals.{refused_in, refuses_in, left, in_append, on
 -- ---- every table is the paper's
 
 pub in_checks : (s : List ℕ) → in_table (checks s) ≡ true
-unfolding in_table allowed tables shape entries shape1 fields1 fixed2 fields2 fixed5 fields5 fields7 sums names ends blocks1to4 blocks5to7 blocks8to11 whole checks
+unfolding in_table allowed shape entries shape1 fields1 fixed2 fields2 fixed5 fields5 fields7 sums names ends blocks1to4 blocks5to7 blocks8to11 whole checks
 in_checks s = refl
 
 pub in_opening : (s : _) (size : ℕ) → in_table (opening s size) ≡ true
@@ -79,28 +79,28 @@ unfolding in_table allowed opening slated
 in_opening s size = refl
 
 pub in_offering : (s : _) (marks : _) (size : ℕ) (f : List ℕ) → in_table (offering s marks size f) ≡ true
-unfolding in_table allowed tables ready slated placing offering
+unfolding in_table allowed ready slated placing offering
 in_offering s marks size f = in_append (checks f) _ (in_checks f) refl
 
 in_given : (v : _) (e : _) (n : ℕ) → in_table (given v e n) ≡ true
-unfolding in_table allowed tables unplaced orders fields1 fields2 fields5 fields7 lengths8 lengths9 lengths10 names room given
+unfolding in_table allowed unplaced orders fields1 fields2 fields5 fields7 lengths8 lengths9 lengths10 names room given
 in_given v e n = refl
 
 in_rooms : (s : List ℕ) (rs : List Row) → in_table rs ≡ true → in_table (tables (checks s ∷ rs ∷ [])) ≡ true
-unfolding tables in_table
+unfolding in_table
 in_rooms s rs h = in_append (checks s) _ (in_checks s) (in_append rs [] h refl)
 
 in_filed : (fs : List (List ℕ)) → in_table (filed fs) ≡ true
-unfolding filed tables in_table
+unfolding filed in_table
 in_filed [] = refl
 in_filed (f ∷ fs) = in_append (checks f) (filed fs) (in_checks f) (in_filed fs)
 
 pub in_reel : (s : List ℕ) → in_table (reels.opening s) ≡ true
-unfolding reels.opening tables in_table allowed
+unfolding reels.opening in_table allowed
 in_reel s = in_append (filed _) [] (in_filed _) refl
 
 pub in_writing : (s ls : List ℕ) (need room : ℕ) → in_table (writing s ls need room) ≡ true
-unfolding writing tables in_table allowed
+unfolding writing in_table allowed
 in_writing s ls need room = in_append (filed _) _ (in_filed _) refl
 
 -- ---- files
@@ -108,35 +108,35 @@ in_writing s ls need room = in_append (filed _) _ (in_filed _) refl
 pub of_verdict : (κ : _) (a : _) (r : _) (t : _) → verdict.Post κ a r t → (u : Turned) → paper r ≡ refused u → allowed u ≡ true
 of_verdict κ a r t p u e = refused_in (checks a.0.now) (in_checks a.0.now) u (sym p ∙ e)
 
-pub of_accept : (κ : _) (a : _) (r : _) (t : _) → accept.Post κ a r t → (u : Turned) → paper_answer r ≡ refuses u → allowed u ≡ true
+pub of_accept : (κ : _) (a : _) (r : _) (t : _) → accept.Post κ a r t → (u : Turned) → paper_reply r ≡ refuses u → allowed u ≡ true
 unfolding answer_of
 of_accept κ a r t p u e = refuses_in (checks a.0.now) (in_checks a.0.now) (facts_of a.0.now) u (sym p ∙ e)
 
--- the checks that go on from a verdict
-pub of_check_file : (κ : _) (a : _) (r : _) (t : _) → check_file.Post κ a r t → Onward (paper a.0) (paper r)
-of_check_file κ a r t p = onward (checks a.1.0.now) (in_checks a.1.0.now) p
+-- the checks alone: what they refuse is of the table
+pub of_check_file : (κ : _) (a : _) (r : _) (t : _) → check_file.Post κ a r t → Onward fine (paper r)
+of_check_file κ a r t p = onward (checks a.0.now) (in_checks a.0.now) p
 
-pub of_check_fields1 : (κ : _) (a : _) (r : _) (t : _) → check_fields1.Post κ a r t → Onward (paper a.0) (paper r)
+pub of_check_fields1 : (κ : _) (a : _) (r : _) (t : _) → check_fields1.Post κ a r t → Onward fine (paper r)
 unfolding fields1 in_table allowed
-of_check_fields1 κ a r t p = onward (fields1 a.1.0) refl p
+of_check_fields1 κ a r t p = onward (fields1 a.0) refl p
 
-pub of_check_fields2 : (κ : _) (a : _) (r : _) (t : _) → check_fields2.Post κ a r t → Onward (paper a.0) (paper r)
+pub of_check_fields2 : (κ : _) (a : _) (r : _) (t : _) → check_fields2.Post κ a r t → Onward fine (paper r)
 unfolding fields2 in_table allowed
-of_check_fields2 κ a r t p = onward (fields2 a.1.0) refl p
+of_check_fields2 κ a r t p = onward (fields2 a.0) refl p
 
-pub of_check_fields5 : (κ : _) (a : _) (r : _) (t : _) → check_fields5.Post κ a r t → Onward (paper a.0) (paper r)
+pub of_check_fields5 : (κ : _) (a : _) (r : _) (t : _) → check_fields5.Post κ a r t → Onward fine (paper r)
 unfolding fields5 in_table allowed
-of_check_fields5 κ a r t p = onward (fields5 a.1.0) refl p
+of_check_fields5 κ a r t p = onward (fields5 a.0) refl p
 
-pub of_check_fields7 : (κ : _) (a : _) (r : _) (t : _) → check_fields7.Post κ a r t → Onward (paper a.0) (paper r)
+pub of_check_fields7 : (κ : _) (a : _) (r : _) (t : _) → check_fields7.Post κ a r t → Onward fine (paper r)
 unfolding fields7 in_table allowed
-of_check_fields7 κ a r t p = onward (fields7 a.1.0 a.1.1.0) refl p
+of_check_fields7 κ a r t p = onward (fields7 a.0 a.1.0) refl p
 
-pub of_check_name : (κ : _) (a : _) (r : _) (t : _) → check_name.Post κ a r t → Onward (paper a.0) (paper r)
+pub of_check_name : (κ : _) (a : _) (r : _) (t : _) → check_name.Post κ a r t → Onward fine (paper r)
 unfolding names in_table allowed
-of_check_name κ a r t p = onward (names a.1.0 a.1.1.0 a.1.1.1.0) refl p
+of_check_name κ a r t p = onward (names a.0 a.1.0 a.1.1.0) refl p
 
-pub of_check_slate : (κ : _) (a : _) (r : _) (t : _) → check_slate.Post κ a r t → Onward (paper a.1.0) (paper r)
+pub of_check_slate : (κ : _) (a : _) (r : _) (t : _) → check_slate.Post κ a r t → Onward fine (paper r)
 unfolding slated in_table allowed
 of_check_slate κ a r t p = onward (slated a.0) refl p
 
@@ -171,11 +171,11 @@ pub of_date : (κ : _) (a : _) (r : _) (t : _) → date_of_reads.Post κ a r t �
 unfolding allowed
 of_date κ a r t p u e = rw (no_date κ a r t p u e)
 
-pub of_slot : (κ : _) (a : _) (r : _) (t : _) → slot.Post κ a r t → (u : Turned) → paper_slot r ≡ refuses u → allowed u ≡ true
+pub of_slot : (κ : _) (a : _) (r : _) (t : _) → slot.Post κ a r t → (u : Turned) → paper_reply r ≡ refuses u → allowed u ≡ true
 unfolding slot_of shot in_table allowed
 of_slot κ a r t p u e = refuses_in (shot a.0 a.1.0) refl _ u (sym p ∙ e)
 
-pub of_frame_number : (κ : _) (a : _) (r : _) (t : _) → frame_number.Post κ a r t → (u : Turned) → paper_frame r ≡ refuses u → allowed u ≡ true
+pub of_frame_number : (κ : _) (a : _) (r : _) (t : _) → frame_number.Post κ a r t → (u : Turned) → paper_reply r ≡ refuses u → allowed u ≡ true
 unfolding film_frame_of shots in_table allowed
 of_frame_number κ a r t p u e = refuses_in (shots a.0 a.1.0 a.1.1.0 a.1.1.1.0) refl _ u (sym p ∙ e)
 
@@ -185,10 +185,10 @@ unfolding slated in_table allowed
 of_slate κ a r t p u e = let q = sym p.says ∙ e in (refused_in (slated _) refl u q, p.is ∙ left _ u _ _ q)
 
 pub in_asking : (s : _) (f : List ℕ) → in_table (asking s f) ≡ true
-unfolding asking slated tables in_table allowed
+unfolding asking slated in_table allowed
 in_asking s f = in_append (checks f) _ (in_checks f) refl
 
-pub of_why : (κ : _) (a : _) (r : _) (t : _) → why.Post κ a r t → (u : Turned) → paper_reason r ≡ refuses u → allowed u ≡ true
+pub of_why : (κ : _) (a : _) (r : _) (t : _) → why.Post κ a r t → (u : Turned) → paper_reply r ≡ refuses u → allowed u ≡ true
 unfolding reason_of
 of_why κ a r t p u e = refuses_in (asking a.0 a.1.0.now) (in_asking _ _) _ u (sym p ∙ e)
 
@@ -221,10 +221,10 @@ module _ (κ : _) (a : _) (r : _) (t : _) (p : line_of.Post κ a r t) where
 
 -- ---- reels
 
-pub of_check_reel : (κ : _) (a : _) (r : _) (t : _) → check_reel.Post κ a r t → Onward (paper a.0) (paper r)
-of_check_reel κ a r t p = onward (reels.opening a.1.0.now) (in_reel a.1.0.now) p
+pub of_check_reel : (κ : _) (a : _) (r : _) (t : _) → check_reel.Post κ a r t → Onward fine (paper r)
+of_check_reel κ a r t p = onward (reels.opening a.0.now) (in_reel a.0.now) p
 
-pub of_open_reel : (κ : _) (a : _) (r : _) (t : _) → open_reel.Post κ a r t → (u : Turned) → paper_opened r ≡ refuses u → allowed u ≡ true
+pub of_open_reel : (κ : _) (a : _) (r : _) (t : _) → open_reel.Post κ a r t → (u : Turned) → paper_reply r ≡ refuses u → allowed u ≡ true
 unfolding opened
 of_open_reel κ a r t p u e = refuses_in (reels.opening a.0.now) (in_reel a.0.now) _ u (sym p ∙ e)
 
@@ -309,7 +309,7 @@ of_errors κ a r t p u e =
 -- ---- from C: marks, frame and output
 
 pub in_lent : (ok : Bool) (rs : List Row) → in_table rs ≡ true → in_table (tables (lent ok ∷ rs ∷ [])) ≡ true
-unfolding lent tables in_table allowed
+unfolding lent in_table allowed
 in_lent ok rs h = in_append rs [] h refl
 
 pub of_hsd_accept : (κ : _) (a : _) (r : _) (t : _) → hsd_accept.Post κ a r t → (allowed_c r.refusal r.block r.offset ≡ true) × ((r.refusal ≡ 0 → ⊥) → Bare r)
@@ -361,7 +361,7 @@ of_hsd_why κ a r t p =
 -- ---- night totals: what is lent is the file alone, and the run goes by value (Night: `Adds` says what a refusal leaves of it)
 
 in_night : (run : _) (f : List ℕ) → in_table (nights.adding run f) ≡ true
-unfolding nights.adding nights.opening tables in_table allowed
+unfolding nights.adding nights.opening in_table allowed
 in_night run f = in_append (checks f) [] (in_checks f) refl
 
 pub of_add : (κ : _) (a : _) (r : _) (t : _) → add.Post κ a r t → (u : Turned) → paper r.verdict ≡ refused u → allowed u ≡ true

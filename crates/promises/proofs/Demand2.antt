@@ -1,22 +1,18 @@
 -- Demand 2. `s` is a string of bytes; the words stand in specs/ of tiling (Made, Lawful), header (Encode, Values, Entries) and writer (Given).
 -- Assumes nothing.
-use Rattle.std.proofs.Common.{◌≡◌, refl, sym, ap, ◌∙◌, ◌↔◌, List, [], ◌∷◌, ◌++◌, ℕ, ◌≤◌, length, take, drop}
+use Rattle.std.proofs.Common.{◌≡◌, refl, sym, ap, ◌∙◌, ◌↔◌, List, [], ◌∷◌, ◌++◌, ℕ, ◌≤◌, length, take, drop, Result, Ok}
 use Rattle.wire.specs.Wire.{Bytes}
-use Rattle.rules.specs.Rules.{fine, judge, paper, says}
+use Rattle.rules.specs.Rules.{fine, judge, paper, says, paper_reply, Verdict}
 use Rattle.rules.proofs.Judge.{said}
-use Rattle.rules.specs.declared.Verdict.{Verdict}
-use Rattle.rules.specs.declared.Verdict.TheVariants.{Fine}
 use Rattle.header.specs.Places.{header_length, length_of, data_length}
 use Rattle.header.specs.Values.{header_of}
 use Rattle.header.specs.declared.Header.{Header}
 use Rattle.header.specs.Encode.{Entries, encode}
 use Rattle.header.specs.Entries.{entries_of}
 use Rattle.accept.specs.declared.Facts.{Facts}
-use Rattle.accept.specs.declared.Answer.{Answer}
-use Rattle.accept.specs.declared.Answer.TheVariants.{Accepted}
+use Rattle.rules.specs.declared.Refusal.{Refusal}
 use Rattle.accept.specs.Checks.{checks}
-use Rattle.accept.specs.Answers.{facts_of, paper_answer, answer_of}
-use Rattle.accept.proofs.Paper.{paper_answer_one}
+use Rattle.accept.specs.Answers.{facts_of, answer_of}
 use Rattle.accept.proofs.accept.Reads as accept
 use Rattle.writer.specs.Given.{ruled, Wrote}
 use Rattle.writer.proofs.Good.{good_is, good_of}
@@ -32,6 +28,7 @@ use Rattle.tiling.proofs.Lawful.{lawful_is, lawful_of, lawful_exactly}
 use Rattle.tiling.proofs.Exactly as tiling
 use Rattle.promises.specs.Calls.{Answered, answered, Read, Written}
 use Rattle.promises.specs.Told.{Told, Shown}
+use Rattle.promises.proofs.Refusals.{reply_one}
 use Rattle.promises.proofs.Calls.{fine_is, got, fine_read, wrote}
 use Rattle.promises.proofs.Told.{told, same_told, by_block5, free, shown_accepted, shown_at}
 
@@ -39,15 +36,13 @@ use Rattle.promises.proofs.Told.{told, same_told, by_block5, free, shown_accepte
 pub exactly : (s : List ℕ) → Bytes s → IsAccepted s ↔ Made s
 exactly = tiling.accepted_exactly
 
--- the same of the function's own answers, whatever call gave them: one that says Accepted speaks of a file that is made,
--- and of such a file the answer is Accepted with its facts
-pub accepts : (κ : _) (a : _) (f : _) (t : _) → accept.Post κ a (Accepted f) t → Bytes a.0.now → Made a.0.now
-unfolding paper_answer
+-- the same of the function's own answers, whatever call gave them: one that says Ok speaks of a file that is made,
+-- and of such a file the answer is Ok with its facts
+pub accepts : (κ : _) (a : _) (f : _) (t : _) → accept.Post κ a (Ok f) t → Bytes a.0.now → Made a.0.now
 accepts κ a f t p b = tiling.says_made a.0.now b f (sym p)
 
-pub answers : (κ : _) (a : _) (x : _) (t : _) → accept.Post κ a x t → Made a.0.now → x ≡ Accepted (facts_of a.0.now)
-unfolding paper_answer
-answers κ a x t p m = paper_answer_one x (Accepted (facts_of a.0.now)) (p ∙ tiling.made_accepted a.0.now m)
+pub answers : (κ : _) (a : _) (x : _) (t : _) → accept.Post κ a x t → Made a.0.now → x ≡ Ok (facts_of a.0.now)
+answers κ a x t p m = reply_one x (Ok (facts_of a.0.now)) (p ∙ tiling.made_accepted a.0.now m)
 
 -- what is read of an accepted file, values and entries, writes back byte for byte, spares too
 pub back : (s : List ℕ) → Bytes s → IsAccepted s → encode (header_of s) (entries_of s) ++ drop (length_of s) s ≡ s
@@ -77,11 +72,11 @@ lawful = lawful_exactly
 -- ---- of the functions' own answers (Calls: `Read`, `Written`, `Answered`). What is left of hypotheses, `Bytes` and `Fit`, are the bounds of the types that
 -- these functions take, u8 to u64 and arrays of so many bytes: every call meets them, but a `Post` does not say so.
 
--- Read, then written: of a file of which `read` says Fine, the other readers do, and the writer, given what the four gave and an output with room, says Fine, puts
+-- Read, then written: of a file of which `read` says Ok, the other readers do, and the writer, given what the four gave and an output with room, says Ok, puts
 -- the file's own header there, byte for byte, and leaves the rest of the output.
 pub read_written : {s l out : List ℕ} {w r : Verdict} {ws : List Verdict} {v : Header} {e : Entries} → Bytes s
-    → Read s w ws v e → w ≡ Fine → Written l v e r out → length_of s ≤ length l
-    → (ws ≡ Fine ∷ Fine ∷ Fine ∷ []) × (r ≡ Fine) × (out ≡ take (length_of s) s ++ drop (length_of s) l)
+    → Read s w ws v e → w ≡ Ok tt → Written l v e r out → length_of s ≤ length l
+    → (ws ≡ Ok tt ∷ Ok tt ∷ Ok tt ∷ []) × (r ≡ Ok tt) × (out ≡ take (length_of s) s ++ drop (length_of s) l)
 read_written {s} {l} {out} {r = r} b rd q wr room =
     let g = fine_read rd q in
     let h = got rd g in
@@ -89,11 +84,11 @@ read_written {s} {l} {out} {r = r} b rd q wr room =
     (h.others, fine_is r k.0, k.1)
 
 -- What acceptance tells of a file is told of the values and entries that the readers give (Told: `Told`).
-pub accepted_told : {s : List ℕ} {x : Answer} {f : Facts} {w : Verdict} {ws : List Verdict} {v : Header} {e : Entries} → Bytes s
-    → Answered s x → x ≡ Accepted f → Read s w ws v e → Told f v e
-unfolding paper_answer answer_of
+pub accepted_told : {s : List ℕ} {x : Result Facts Refusal} {f : Facts} {w : Verdict} {ws : List Verdict} {v : Header} {e : Entries} → Bytes s
+    → Answered s x → x ≡ Ok f → Read s w ws v e → Told f v e
+unfolding answer_of
 accepted_told {s} {f = f} b (answered κ a x t p i) q rd =
-    let y : answer_of s ≡ says f = ap answer_of (sym i) ∙ sym p ∙ ap paper_answer q in
+    let y : answer_of s ≡ says f = ap answer_of (sym i) ∙ sym p ∙ ap paper_reply q in
     let g = said (judge fine (checks s)) (facts_of s) f y in
     let m = tiling.says_made s b f y in
     let h = got rd g.0 in
@@ -122,34 +117,32 @@ read_by_block5 {s} b rd κ₁ a₁ r t₁ p₁ i z κ a x t p q =
     let y : r ≡ shown_file (answer_of s) = p₁ ∙ ap (λ (l : List ℕ). shown_file (answer_of l)) i in
     p ∙ ap (λ (c : Calibration). shown_reading (reading_of c a.1.0)) (ap calibration_c (q ∙ y) ∙ by_block5 b rd (ap (λ (h : HsdFile). h.refusal) (sym y) ∙ z))
 
--- Written, then read: of values and entries of their types of which the writer says Fine, what it wrote, with counts of the right length after it, is accepted, and the
+-- Written, then read: of values and entries of their types of which the writer says Ok, what it wrote, with counts of the right length after it, is accepted, and the
 -- four readers give back exactly those values and entries.
-module _ {l out : List ℕ} {v : Header} {e : Entries} (fit : Fit v e) (wr : Written l v e Fine out)
+module _ {l out : List ℕ} {v : Header} {e : Entries} (fit : Fit v e) (wr : Written l v e (Ok tt) out)
     (counts : List ℕ) (size : length counts ≡ data_length v.block2.columns v.block2.lines) where
   abbrev file : List ℕ
   file = take (header_length (length e.lines8) (length e.lines9) (length e.lines10)) out ++ counts
 
   made : (m : Made file) × (m.v ≡ v) × (m.e ≡ e)
-  unfolding paper
-  made = tiling.writes_made l v e Fine out fit (wrote wr) refl counts size
+  made = tiling.writes_made l v e (Ok tt) out fit (wrote wr) refl counts size
 
-  pub written_accepted : {x : Answer} → Answered file x → x ≡ Accepted (facts_of file)
+  pub written_accepted : {x : Result Facts Refusal} → Answered file x → x ≡ Ok (facts_of file)
   written_accepted (answered κ a x t p i) = answers κ a x t p (rw i made.0) ∙ rw i
 
   pub written_told : Told (facts_of file) v e
   written_told = same_told refl (sym made.1) (sym made.2) (told file made.0)
 
   pub written_read : {w : Verdict} {ws : List Verdict} {v' : Header} {e' : Entries} → Read file w ws v' e'
-      → (w ≡ Fine) × (ws ≡ Fine ∷ Fine ∷ Fine ∷ []) × (v' ≡ v) × (e' ≡ e)
+      → (w ≡ Ok tt) × (ws ≡ Ok tt ∷ Ok tt ∷ Ok tt ∷ []) × (v' ≡ v) × (e' ≡ e)
   written_read rd =
       let h = got rd (tiling.accepted_fine file (tiling.made_accepted file made.0)) in
       let k = tiling.reads_back file made.0 in
       (h.first, h.others, h.header ∙ k.0 ∙ made.1, h.entries ∙ k.1 ∙ made.2)
 
--- The writer says Fine exactly of lawful values and entries that its output has room for.
+-- The writer says Ok exactly of lawful values and entries that its output has room for.
 pub writes_exactly : {l out : List ℕ} {v : Header} {e : Entries} {r : Verdict} → Fit v e → Written l v e r out
-    → (r ≡ Fine) ↔ (Lawful v e × (header_length (length e.lines8) (length e.lines9) (length e.lines10) ≤ length l))
-unfolding paper
+    → (r ≡ Ok tt) ↔ (Lawful v e × (header_length (length e.lines8) (length e.lines9) (length e.lines10) ≤ length l))
 writes_exactly {l} {v = v} {e = e} {r = r} fit wr =
     let w = wrote wr in (
       λ q. let g = good_is v e (length l) (sym w.says ∙ ap paper q) in (lawful_is v e fit g.0, g.1),

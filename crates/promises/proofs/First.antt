@@ -1,13 +1,13 @@
 -- The first check that fails answers: a function refuses exactly where a row of its table fails, and says what the first such row shows.
 -- Each theorem is of the function's own answers, whatever call gave them. Assumes nothing.
 use Rattle.std.proofs.Common.{◌≡◌, sym, ◌∙◌, ◌↔◌, List, [], ◌∷◌, length}
-use Rattle.rules.specs.Rules.{Turned, Row, Ruling, fine, refused, refuses, judge, First, tables, paper, Reply, reply}
+use Rattle.rules.specs.Rules.{Turned, Row, Ruling, fine, refused, refuses, judge, First, tables, paper, Reply, paper_reply, reply}
 use Rattle.rules.proofs.Judge.{first_fails, turned_away}
-use Rattle.calendar.specs.Shots.{shot, paper_slot, slot_of, shots, paper_frame, film_frame_of}
+use Rattle.calendar.specs.Shots.{shot, slot_of, shots, film_frame_of}
 use Rattle.header.specs.Places.{a_of, b_of, c_of}
 use Rattle.accept.specs.Checks.{checks}
-use Rattle.accept.specs.Answers.{facts_of, paper_answer, answer_of}
-use Rattle.slate.specs.Slates.{slated, parts_of, asking, paper_reason, reason_of}
+use Rattle.accept.specs.Answers.{facts_of, answer_of}
+use Rattle.slate.specs.Slates.{slated, parts_of, asking, reason_of}
 use Rattle.frame.specs.Frames.{opening, offering}
 use Rattle.writer.specs.Given.{given}
 use Rattle.writer.specs.Sizes.{entries_from}
@@ -34,7 +34,6 @@ ruling rs e u = (λ q. (first_fails rs u).0 (sym e ∙ q), λ f. e ∙ (first_fa
 
 -- an answer that carries a value where none fails
 answer : {A : Type 0} {x : Reply A} (rs : List Row) (a : A) → x ≡ reply (judge fine rs) a → (u : Turned) → (x ≡ refuses u) ↔ First rs u
-unfolding reply
 answer rs a e u = (λ q. (first_fails rs u).0 (turned_away (judge fine rs) a u (sym e ∙ q)), λ f. e ∙ rw ((first_fails rs u).1 f))
 
 -- ---- files
@@ -42,7 +41,7 @@ answer rs a e u = (λ q. (first_fails rs u).0 (turned_away (judge fine rs) a u (
 pub of_verdict : (κ : _) (a : _) (r : _) (t : _) → verdict.Post κ a r t → (u : Turned) → (paper r ≡ refused u) ↔ First (checks a.0.now) u
 of_verdict κ a r t p = ruling (checks a.0.now) p
 
-pub of_accept : (κ : _) (a : _) (r : _) (t : _) → accept.Post κ a r t → (u : Turned) → (paper_answer r ≡ refuses u) ↔ First (checks a.0.now) u
+pub of_accept : (κ : _) (a : _) (r : _) (t : _) → accept.Post κ a r t → (u : Turned) → (paper_reply r ≡ refuses u) ↔ First (checks a.0.now) u
 unfolding answer_of
 of_accept κ a r t p = answer (checks a.0.now) (facts_of a.0.now) p
 
@@ -82,18 +81,18 @@ pub of_offer : (κ : _) (a : _) (r : _) (t : _) → offer.Post κ a r t → (u :
     → (paper r.verdict ≡ refused u) ↔ First (offering a.0 a.1.0.marks (length a.1.1.0.now) a.1.1.1.0.now) u
 of_offer κ a r t p = ruling _ p.0
 
-pub of_slot : (κ : _) (a : _) (r : _) (t : _) → slot.Post κ a r t → (u : Turned) → (paper_slot r ≡ refuses u) ↔ First (shot a.0 a.1.0) u
+pub of_slot : (κ : _) (a : _) (r : _) (t : _) → slot.Post κ a r t → (u : Turned) → (paper_reply r ≡ refuses u) ↔ First (shot a.0 a.1.0) u
 unfolding slot_of
 of_slot κ a r t p = answer _ _ p
 
 pub of_frame_number : (κ : _) (a : _) (r : _) (t : _) → frame_number.Post κ a r t → (u : Turned)
-    → (paper_frame r ≡ refuses u) ↔ First (shots a.0 a.1.0 a.1.1.0 a.1.1.1.0) u
+    → (paper_reply r ≡ refuses u) ↔ First (shots a.0 a.1.0 a.1.1.0 a.1.1.1.0) u
 unfolding film_frame_of
 of_frame_number κ a r t p = answer _ _ p
 
 -- ---- why: the slate, and then the file's own
 
-pub of_why : (κ : _) (a : _) (r : _) (t : _) → why.Post κ a r t → (u : Turned) → (paper_reason r ≡ refuses u) ↔ First (asking a.0 a.1.0.now) u
+pub of_why : (κ : _) (a : _) (r : _) (t : _) → why.Post κ a r t → (u : Turned) → (paper_reply r ≡ refuses u) ↔ First (asking a.0 a.1.0.now) u
 unfolding reason_of
 of_why κ a r t p = answer _ _ p
 

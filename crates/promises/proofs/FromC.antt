@@ -1,15 +1,12 @@
 -- The plain functions of C say what the library's own say, in the paper's numbers: kinds of reading from 0 in its order, 0 for no refusal.
 -- Each theorem is of calls with the same numbers. Assumes nothing.
-use Rattle.std.proofs.Common.{◌≡◌, refl, sym, ap, ◌∙◌, false, ℕ, pos}
+use Rattle.std.proofs.Common.{◌≡◌, refl, sym, ap, ◌∙◌, false, ℕ, ℤ, pos, Option, Some, None, Result, Ok, Err}
 use mathlib.Core.List.{Memᴰ}
 use lib.Ieee.{fin}
-use Rattle.rules.specs.Rules.{number_of}
+use Rattle.rules.specs.Rules.{number_of, paper_reply}
+use Rattle.rules.specs.declared.Refusal.{Refusal}
 use Rattle.calendar.specs.Dates.{paper_day, day_of}
-use Rattle.calendar.specs.Shots.{paper_frame, film_frame_of}
-use Rattle.calendar.specs.declared.Dated.{Dated}
-use Rattle.calendar.specs.declared.Dated.TheVariants.{Day, NoSuchDate}
-use Rattle.calendar.specs.declared.FilmFrame.{FilmFrame}
-use Rattle.calendar.specs.declared.FilmFrame.TheVariants as film
+use Rattle.calendar.specs.Shots.{film_frame_of}
 use Rattle.calendar.proofs.day_of.Reads as day_of_reads
 use Rattle.calendar.proofs.frame_number.Reads as frame_number
 use Rattle.reading.specs.declared.Reading.{Reading}
@@ -52,30 +49,30 @@ of_read_count κ a r t p κ' b y u q ec en =
     rw e (kind y)
 
 -- a film number, or its refusal
-abbrev Film : FilmFrame → HsdFrameNumber → Type 0
-Film (film.Number n) r = (r.refusal ≡ 0) × (r.block ≡ 0) × (r.offset ≡ 0) × (r.number ≡ n)
-Film (film.Refused t) r = (r.refusal ≡ number_of t.why) × (r.block ≡ t.block) × (r.offset ≡ t.offset) × (r.number ≡ pos 0)
+abbrev Film : Result ℤ Refusal → HsdFrameNumber → Type 0
+Film (Ok n) r = (r.refusal ≡ 0) × (r.block ≡ 0) × (r.offset ≡ 0) × (r.number ≡ n)
+Film (Err t) r = (r.refusal ≡ number_of t.why) × (r.block ≡ t.block) × (r.offset ≡ t.offset) × (r.number ≡ pos 0)
 
-on_film : (z : FilmFrame) → Film z (shown_frame (paper_frame z))
-unfolding shown_frame paper_frame
-on_film (film.Number n) = (refl, refl, refl, refl)
-on_film (film.Refused t) = (refl, refl, refl, refl)
+on_film : (z : Result ℤ Refusal) → Film z (shown_frame (paper_reply z))
+unfolding shown_frame
+on_film (Ok n) = (refl, refl, refl, refl)
+on_film (Err t) = (refl, refl, refl, refl)
 
 pub of_frame_number : (κ : _) (a : _) (r : _) (t : _) → hsd_frame_number.Post κ a r t
     → (κ' : _) (b : _) (z : _) (u : _) → frame_number.Post κ' b z u → b.0 ≡ a.0 → b.1.0 ≡ a.1.0 → b.1.1.0 ≡ a.1.1.0 → b.1.1.1.0 ≡ a.1.1.1.0 → Film z r
 of_frame_number κ a r t p κ' b z u q e f g h =
-    let w : r ≡ shown_frame (paper_frame z) = p ∙ ap shown_frame (sym (q ∙ (λ i. film_frame_of (e i) (f i) (g i) (h i)))) in
+    let w : r ≡ shown_frame (paper_reply z) = p ∙ ap shown_frame (sym (q ∙ (λ i. film_frame_of (e i) (f i) (g i) (h i)))) in
     rw w (on_film z)
 
 -- a day, or 0 for a date that is not real
-abbrev DayOr0 : Dated → ℕ → Type 0
-DayOr0 (Day n) r = r ≡ n
-DayOr0 NoSuchDate r = r ≡ 0
+abbrev DayOr0 : Option ℕ → ℕ → Type 0
+DayOr0 (Some n) r = r ≡ n
+DayOr0 None r = r ≡ 0
 
-on_day : (z : Dated) → DayOr0 z (day_or_0 (paper_day z))
+on_day : (z : Option ℕ) → DayOr0 z (day_or_0 (paper_day z))
 unfolding paper_day
-on_day (Day n) = refl
-on_day NoSuchDate = refl
+on_day (Some n) = refl
+on_day None = refl
 
 pub of_day : (κ : _) (a : _) (r : _) (t : _) → hsd_day.Post κ a r t
     → (κ' : _) (b : _) (z : _) (u : _) → day_of_reads.Post κ' b z u → b.0 ≡ a.0 → b.1.0 ≡ a.1.0 → b.1.1.0 ≡ a.1.1.0 → DayOr0 z r

@@ -4,7 +4,7 @@
 use Rattle.std.proofs.Common.{◌≡◌, refl, sym, ap, ◌∙◌, Bool, true, false, not, ◌&&◌, List, [], ◌∷◌, ◌++◌, append-nil, ℕ, zero, suc, ◌+◌, ◌<◌, ◌≤◌, arith, eq-eqb, ne_eqb, le-ltb, eqb, pos, get_or, set}
 use Rattle.std.proofs.Math.Bool.{false≢true, and-eq-true_iff}
 use borrow.Author.Tests.{lt-leb}
-use Rattle.rules.specs.Rules.{Row, test, turned, fine, refused, checked, judge, tables, after}
+use Rattle.rules.specs.Rules.{Row, test, turned, fine, refused, judge, after}
 use Rattle.rules.proofs.Judge.{judge_refused}
 use Rattle.accept.specs.Checks.{shape, entries, shape1, fields1, fixed2, fields2, fixed5, fields5, fields7, sums, names, ends, blocks1to4, blocks5to7, blocks8to11, whole, checks}
 use Rattle.totals.specs.Files.{totals_of}
@@ -34,11 +34,11 @@ small_all xs (suc n) h = rw (le-ltb 4096 (get_or xs n 0) (h n (omega arith))) (s
 -- ---- what is answered
 
 pub run_first : (r : Run) (f : List ℕ) → open_run r ≡ false → added r f ≡ refused (turned 19 0 0)
-unfolding adding opening tables checked
+unfolding adding opening
 run_first r f o = rw o (judge_refused (turned 19 0 0) (checks f ++ []))
 
 pub file_alone : (r : Run) (f : List ℕ) → open_run r ≡ true → added r f ≡ judge fine (checks f)
-unfolding adding opening tables checked
+unfolding adding opening
 file_alone r f o = rw (o, append-nil)
 
 -- no file's own refusal is RUN
@@ -47,11 +47,11 @@ none_is n [] = true
 none_is n (test ok (turned m b p) ∷ rs) = not (eqb m n) && none_is n rs
 
 checks_never : (f : List ℕ) → none_is 19 (checks f) ≡ true
-unfolding none_is tables shape entries shape1 fields1 fixed2 fields2 fixed5 fields5 fields7 sums names ends blocks1to4 blocks5to7 blocks8to11 whole checks
+unfolding none_is shape entries shape1 fields1 fixed2 fields2 fixed5 fields5 fields7 sums names ends blocks1to4 blocks5to7 blocks8to11 whole checks
 checks_never f = refl
 
 never : (n : ℕ) (rs : List Row) (b p : ℕ) → none_is n rs ≡ true → judge fine rs ≡ refused (turned n b p) → ⊥
-unfolding none_is checked
+unfolding none_is
 never n [] b p h e = let z : ◌≡◌ {A = ℕ} 0 1 = cc in omega arith
 never n (test true (turned m k q) ∷ rs) b p h e = never n rs b p ((and-eq-true_iff (not (eqb m n)) (none_is n rs)).0 h).1 e
 never n (test false (turned m k q) ∷ rs) b p h e =

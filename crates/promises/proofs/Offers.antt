@@ -1,10 +1,9 @@
 -- Laws of what an offer answers of a good slate and an accepted file. Assumes nothing.
-use Rattle.std.proofs.Common.{◌≡◌, refl, sym, ap, ◌∙◌, Bool, true, false, not, List, [], ◌∷◌, ◌++◌, ℕ, zero, suc, ◌+◌, ◌*◌, ◌-◌, ◌≤◌, ◌<◌, arith, eqb, length, get_or, replicate, eq-eqb, le-leb}
+use Rattle.std.proofs.Common.{◌≡◌, refl, sym, ap, ◌∙◌, Bool, true, false, not, List, [], ◌∷◌, ◌++◌, ℕ, zero, suc, ◌+◌, ◌*◌, ◌-◌, ◌≤◌, ◌<◌, arith, eqb, length, get_or, replicate, eq-eqb, le-leb, Err}
 use Rattle.std.proofs.Math.ListN.{length-replicate, get_or-replicate}
 use base.Fml.{Lft}
 use denote.Ref.{Bor, MutBor}
-use Rattle.rules.specs.Rules.{turned, Row, row, Ruling, fine, refused, judge, checked, tables, paper}
-use Rattle.rules.specs.declared.Verdict.TheVariants as verdicts
+use Rattle.rules.specs.Rules.{turned, Row, row, Ruling, fine, refused, judge, tables, paper}
 use Rattle.rules.specs.declared.Why.TheVariants.{OtherShot}
 use Rattle.rules.proofs.Judge.{judge_append, judge_refused}
 use Rattle.accept.specs.Checks.{checks}
@@ -20,7 +19,7 @@ use Rattle.frame.proofs.offer.Reads as offer
 use Rattle.plugin.specs.Plugin.{shown_ruling}
 use Rattle.plugin_frames.specs.declared.HsdSlate.{HsdSlate}
 use Rattle.plugin_frames.specs.Strips.{is_bit, bits_from, good_marks, lent, marks_in, offered_c, offer_marks, offer_strip}
-use Rattle.plugin_frames.proofs.Lending.{lent_good}
+use Rattle.plugin_frames.proofs.Lending.{flags_at, lent_good}
 use Rattle.plugin_frames.proofs.hsd_offer.Reads as hsd_offer
 use Rattle.tiling.proofs.Lawful.{and}
 use Rattle.promises.specs.Heights.{lines_of}
@@ -29,7 +28,6 @@ use Rattle.promises.specs.Night.{answer_of}
 use Rattle.promises.specs.Why.{Accepted, Never, SoFarC, NeverC}
 use Rattle.promises.proofs.Heights.{whole_is}
 use Rattle.promises.proofs.Refusals.{left, shown_number}
-use Rattle.promises.proofs.Runs.{get_or_flags}
 use Rattle.promises.proofs.Slated.{good_exactly, match_exactly, mark_at}
 
 -- where all tests of a table hold, it changes no ruling
@@ -42,7 +40,6 @@ abbrev four : (x y m z : Bool) → List Row
 four x y m z = row x 13 0 0 ∷ row y 14 0 0 ∷ row m 15 0 0 ∷ row z 16 0 0 ∷ []
 
 never_15 : (x y z : Bool) (b p : ℕ) → judge fine (four x y true z) ≡ refused (turned 15 b p) → ⊥
-unfolding checked
 never_15 false y z b p e = let q : ◌≡◌ {A = ℕ} 13 15 = ap answer_of e in omega arith
 never_15 true false z b p e = let q : ◌≡◌ {A = ℕ} 14 15 = ap answer_of e in omega arith
 never_15 true true false b p e = let q : ◌≡◌ {A = ℕ} 16 15 = ap answer_of e in omega arith
@@ -59,14 +56,13 @@ none_at_all total l = pass_all not false no_marks total (99 - total) (λ i a b. 
 module _ (s : Slate) (f : List ℕ) (g : Good s) (ok : Accepted f) (marks : List Bool) (size : ℕ) where
   -- slate and file are good: these four are left
   left_four : offered s marks size f ≡ judge fine (four (none_above s.total marks) (eqb size (frame_size s)) (matching s (facts_of f)) (not (marked marks (facts_of f).number)))
-  unfolding offering tables ready slated placing checked
+  unfolding offering ready slated placing
   left_four = rw ((good_exactly s).1 g, judge_append (judge fine (row (none_above s.total marks) 13 0 0 ∷ row (eqb size (frame_size s)) 14 0 0 ∷ [])) (checks f) _, passed _ (checks f) ok)
 
   pub not_other : Match s (facts_of f) → (b p : ℕ) → offered s marks size f ≡ refused (turned 15 b p) → ⊥
   not_other m b p e = never_15 _ _ _ b p (rw ((match_exactly s (facts_of f)).1 m) at (sym left_four ∙ e))
 
   pub other : matching s (facts_of f) ≡ false → none_above s.total marks ≡ true → size ≡ frame_size s → offered s marks size f ≡ refused (turned 15 0 0)
-  unfolding checked
   other m n e = left_four ∙ rw (m, n, eq-eqb size (frame_size s) e)
 
 -- ---- some offer answers 15
@@ -84,16 +80,15 @@ abbrev fresh : Slate → Bor (List ℕ) → Slate × (Record × (MutBor (List �
 fresh s file = (s, (record { marks = no_marks }, (record { ref_ptr = (suc file.ref_ptr.0, 0); ghost_name = 0; now = replicate (frame_size s) 65534 }, (file, tt))))
 
 abbrev told : Held
-told = record { verdict = verdicts.Refused (record { why = OtherShot; block = 0; offset = 0 }); rec = record { marks = no_marks } }
+told = record { verdict = Err (record { why = OtherShot; block = 0; offset = 0 }); rec = record { marks = no_marks } }
 
 offers_fresh : (κ : _) (s : Slate) (file : Bor (List ℕ)) → Good s → Accepted file.now → matching s (facts_of file.now) ≡ false → offer.Post κ (fresh s file) told (fresh s file)
-unfolding paper record_after frame_after
+unfolding record_after frame_after
 offers_fresh κ s file g ok m =
     let e = other s file.now g ok no_marks _ m (none_at_all s.total g.parts.most_total) (length-replicate {A = ℕ} (frame_size s) 65534) in
     (sym e, (sym (left _ _ _ _ e), sym (left _ _ _ _ e)))
 
 told_15 : paper told.verdict ≡ refused (turned 15 0 0)
-unfolding paper
 told_15 = refl
 
 pub never_match : (κ : Lft) (s : Slate) (file : Bor (List ℕ)) → Good s → Accepted file.now → Never s file.now → matching s (facts_of file.now) ≡ true
@@ -104,7 +99,7 @@ never_match κ s file g ok h =
 
 -- marks that will not do are 13
 never_lent : (ok : Bool) (rs : List Row) → ((b p : ℕ) → judge fine rs ≡ refused (turned 15 b p) → ⊥) → (b p : ℕ) → judge fine (tables (lent ok ∷ rs ∷ [])) ≡ refused (turned 15 b p) → ⊥
-unfolding lent tables checked
+unfolding lent
 never_lent true rs h b p e = h b p (sym (lent_good true rs refl) ∙ e)
 never_lent false rs h b p e = let q : ◌≡◌ {A = ℕ} 13 15 = ap answer_of (sym (judge_refused (turned 13 0 0) (rs ++ [])) ∙ e) in omega arith
 
@@ -114,7 +109,7 @@ good_marks_lem m l h = and (eq-eqb (length m) 99 l) (pass_all is_bit 0 m 0 99 (�
 
 none_above_c : (m : List ℕ) (total : ℕ) → total ≤ 99 → ((i : ℕ) → total ≤ i → get_or m i 0 ≡ 0) → none_above total (marks_in m) ≡ true
 unfolding none_above
-none_above_c m total l h = pass_all not false (marks_in m) total (99 - total) (λ i a b. rw (get_or_flags m 99 i (omega arith), h i a))
+none_above_c m total l h = pass_all not false (marks_in m) total (99 - total) (λ i a b. rw (flags_at m 99 i (omega arith), h i a))
 
 module _ (s : HsdSlate) (f : List ℕ) (g : Good (slate_from s)) (ok : Accepted f) (m : List ℕ) (size : ℕ) where
   pub not_other_c : Match (slate_from s) (facts_of f) → (shown_ruling (offered_c s m size f)).refusal ≡ 15 → ⊥

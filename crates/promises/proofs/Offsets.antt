@@ -7,18 +7,18 @@ use Rattle.plugin_night.proofs.hsd_night_add.Reads as hsd_night_add
 use Rattle.std.proofs.Common.{◌≡◌, refl, sym, ap, ◌∙◌, Bool, true, false, ◌&&◌, List, [], ◌∷◌, ◌++◌, ◌↔◌, ℕ, ◌≤◌, arith, length, take, drop, take_at, eqb, eqb-true, le-ltb}
 use Rattle.std.proofs.Math.Bool.{and-eq-true_iff}
 use Rattle.wire.specs.Wire.{join}
-use Rattle.rules.specs.Rules.{Turned, turned, Row, test, Ruling, fine, refused, judge, checked, First, here, later, tables, unplaced, paper, refuses, reply}
+use Rattle.rules.specs.Rules.{Turned, turned, Row, test, Ruling, fine, refused, judge, First, here, later, tables, unplaced, paper, paper_reply, refuses}
 use Rattle.rules.proofs.Judge.{first_fails, turned_away}
-use Rattle.calendar.specs.Shots.{shot, paper_slot, shots, paper_frame, film_frame_of}
+use Rattle.calendar.specs.Shots.{shot, shots, film_frame_of}
 use Rattle.header.specs.Values.{block1_of, block2_of, block5_of, block7_of}
 use Rattle.accept.specs.Checks.{shape, entries, shape1, fields1, fixed2, fields2, fixed5, fields5, fields7, sums, names, ends, blocks1to4, blocks5to7, blocks8to11, whole, checks}
-use Rattle.accept.specs.Answers.{facts_of, paper_answer, answer_of}
-use Rattle.slate.specs.Slates.{slated, asking, paper_reason, reason_of}
+use Rattle.accept.specs.Answers.{facts_of, answer_of}
+use Rattle.slate.specs.Slates.{slated, asking, reason_of}
 use Rattle.slate.proofs.Slate.why.Reads as why
 use Rattle.frame.specs.Frames.{ready, placing, offering}
 use Rattle.reader.specs.Reads.{rooms2, rooms3}
 use Rattle.writer.specs.Given.{given}
-use Rattle.reel.specs.Reels.{File, filed, parts_of, paper_opened, opened}
+use Rattle.reel.specs.Reels.{File, filed, parts_of, opened}
 use Rattle.reel.specs.Reels as reels
 use Rattle.reel.specs.Writing.{writing, listed}
 use Rattle.format.specs.Texts.{decimal}
@@ -57,7 +57,7 @@ use Rattle.promises.proofs.Reeled.{laid_has, handed_listed}
 
 -- the checks are these fields' tests
 fields_are : (s : List ℕ) → checks s ≡ fields s
-unfolding tables shape entries shape1 fields1 fixed2 fields2 fixed5 fields5 fields7 sums names ends blocks1to4 blocks5to7 blocks8to11 whole checks block1_of block2_of block5_of block7_of
+unfolding shape entries shape1 fields1 fixed2 fields2 fixed5 fields5 fields7 sums names ends blocks1to4 blocks5to7 blocks8to11 whole checks block1_of block2_of block5_of block7_of
 fields_are s = refl
 
 -- 7 is no refusal any more
@@ -70,7 +70,7 @@ no_seven b p = refl
 pub of_verdict : (κ : _) (a : _) (r : _) (t : _) → verdict.Post κ a r t → (u : Turned) → (paper r ≡ refused u) ↔ First (fields a.0.now) u
 of_verdict κ a r t p u = rw (← fields_are a.0.now) (first.of_verdict κ a r t p u)
 
-pub of_accept : (κ : _) (a : _) (r : _) (t : _) → accept.Post κ a r t → (u : Turned) → (paper_answer r ≡ refuses u) ↔ First (fields a.0.now) u
+pub of_accept : (κ : _) (a : _) (r : _) (t : _) → accept.Post κ a r t → (u : Turned) → (paper_reply r ≡ refuses u) ↔ First (fields a.0.now) u
 of_accept κ a r t p u = rw (← fields_are a.0.now) (first.of_accept κ a r t p u)
 
 pub of_read : (κ : _) (a : _) (r : _) (t : _) → read.Post κ a r t → (u : Turned) → (paper r.verdict ≡ refused u) ↔ First (fields a.0.now) u
@@ -84,7 +84,6 @@ data Either (xs ys : List Row) (u : Turned) : Type 0 where
   beyond : judge fine xs ≡ fine → First ys u → Either xs ys u
 
 split : (xs : List Row) {ys : List Row} {u : Turned} → First (xs ++ ys) u → Either xs ys u
-unfolding checked
 split [] f = beyond refl f
 split (test ok t ∷ xs) (here e) = within (here e)
 split (test ok t ∷ xs) (later e f) = go e (split xs f)
@@ -134,19 +133,19 @@ alone : (f : File) (u : Turned) → First (checks f) u → Concerns (f ∷ []) u
 alone f u h = one [] [] f {u = u} refl tt (rw (← fields_are f) h)
 
 pub of_shifts : (κ : _) (a : _) (r : _) (t : _) → read_shifts.Post κ a r t → (u : Turned) → paper r ≡ refused u → Concerns (a.0.now ∷ []) u
-unfolding tables rooms3
+unfolding rooms3
 of_shifts κ a r t p u e = between (a.0.now ∷ []) [] (checks a.0.now) _ u refl refl (alone a.0.now u) ((first.of_shifts κ a r t p u).0 e)
 
 pub of_times : (κ : _) (a : _) (r : _) (t : _) → read_times.Post κ a r t → (u : Turned) → paper r ≡ refused u → Concerns (a.0.now ∷ []) u
-unfolding tables rooms2
+unfolding rooms2
 of_times κ a r t p u e = between (a.0.now ∷ []) [] (checks a.0.now) _ u refl refl (alone a.0.now u) ((first.of_times κ a r t p u).0 e)
 
 pub of_errors : (κ : _) (a : _) (r : _) (t : _) → read_errors.Post κ a r t → (u : Turned) → paper r ≡ refused u → Concerns (a.0.now ∷ []) u
-unfolding tables rooms2
+unfolding rooms2
 of_errors κ a r t p u e = between (a.0.now ∷ []) [] (checks a.0.now) _ u refl refl (alone a.0.now u) ((first.of_errors κ a r t p u).0 e)
 
 offered_for : (s : _) (marks : _) (size : ℕ) (f : File) (u : Turned) → First (offering s marks size f) u → Concerns (f ∷ []) u
-unfolding offering tables ready slated placing
+unfolding offering ready slated placing
 offered_for s marks size f u h = between (f ∷ []) (ready s marks size) (checks f) _ u refl refl (alone f u) h
 
 pub of_offer : (κ : _) (a : _) (r : _) (t : _) → offer.Post κ a r t → (u : Turned) → paper r.verdict ≡ refused u → Concerns (a.1.1.1.0.now ∷ []) u
@@ -159,7 +158,7 @@ next_one f h none = none
 next_one f h (one before after g {u = u} e k w) = one (f ∷ before) after g {u = u} (ap (λ (l : List File). f ∷ l) e) (h, k) w
 
 any_of : (fs : List File) (u : Turned) → First (filed fs) u → Concerns fs u
-unfolding filed tables
+unfolding filed
 any_of [] u f = absurd (nothing f)
 any_of (f ∷ fs) u h = go (split (checks f) h) (any_of fs u)
   where
@@ -168,14 +167,14 @@ any_of (f ∷ fs) u h = go (split (checks f) h) (any_of fs u)
     go (beyond e g) r = next_one f e (r g)
 
 opened_of : (s : List ℕ) (u : Turned) → judge fine (reels.opening s) ≡ refused u → Concerns (parts_of s) u
-unfolding reels.opening tables
+unfolding reels.opening
 opened_of s u e = between (parts_of s) (_ ∷ []) (filed (parts_of s)) [] u refl refl (any_of (parts_of s) u) ((first_fails (reels.opening s) u).0 e)
 
 wrote_of : (s ls : List ℕ) (need room : ℕ) (u : Turned) → judge fine (writing s ls need room) ≡ refused u → Concerns (listed s ls) u
-unfolding writing tables
+unfolding writing
 wrote_of s ls need room u e = between (listed s ls) (_ ∷ []) (filed (listed s ls)) (_ ∷ []) u refl refl (any_of (listed s ls) u) ((first_fails (writing s ls need room) u).0 e)
 
-pub of_open_reel : (κ : _) (a : _) (r : _) (t : _) → open_reel.Post κ a r t → {ps : List File} → Laid a.0.now ps → (u : Turned) → paper_opened r ≡ refuses u → Concerns ps u
+pub of_open_reel : (κ : _) (a : _) (r : _) (t : _) → open_reel.Post κ a r t → {ps : List File} → Laid a.0.now ps → (u : Turned) → paper_reply r ≡ refuses u → Concerns ps u
 unfolding opened
 of_open_reel κ a r t p l u e = rw (← (laid_has l).parts) (opened_of a.0.now u (turned_away (judge fine (reels.opening a.0.now)) _ u (sym p ∙ e)))
 
@@ -188,16 +187,16 @@ of_seal κ a r t p h u e = rw (← handed_listed h) (wrote_of _ _ _ _ u (sym p.0
 -- ---- why
 
 asked_for : (s : _) (f : File) (u : Turned) → First (asking s f) u → Concerns (f ∷ []) u
-unfolding asking tables slated
+unfolding asking slated
 asked_for s f u h = between (f ∷ []) (slated s) (checks f) [] u refl refl (alone f u) h
 
-pub of_why : (κ : _) (a : _) (r : _) (t : _) → why.Post κ a r t → (u : Turned) → paper_reason r ≡ refuses u → Concerns (a.1.0.now ∷ []) u
+pub of_why : (κ : _) (a : _) (r : _) (t : _) → why.Post κ a r t → (u : Turned) → paper_reply r ≡ refuses u → Concerns (a.1.0.now ∷ []) u
 of_why κ a r t p u e = asked_for a.0 a.1.0.now u ((first.of_why κ a r t p u).0 e)
 
 -- ---- night totals
 
 added_for : (run : _) (f : File) (u : Turned) → First (nights.adding run f) u → Concerns (f ∷ []) u
-unfolding nights.adding nights.opening tables
+unfolding nights.adding nights.opening
 added_for run f u h = between (f ∷ []) (nights.opening run) (checks f) [] u refl refl (alone f u) h
 
 pub of_add : (κ : _) (a : _) (r : _) (t : _) → add.Post κ a r t → (u : Turned) → paper r.verdict ≡ refused u → Concerns (a.1.0.now ∷ []) u
@@ -213,7 +212,7 @@ unfolding listing.listed line_words refusal_words join
 of_line κ a r t p short (turned n b o) e = stored _ _ _ r p ∙ rw (le-ltb 65536 (length a.0.now) short, e) refl
 
 none_there : answer_of [] ≡ refuses (turned 1 1 0)
-unfolding answer_of reply tables
+unfolding answer_of
 none_there = let f : judge fine (checks []) ≡ refused (turned 1 1 0) = (first_fails (checks []) (turned 1 1 0)).1 (rw (fields_are []) (here refl)) in rw f
 
 pub no_bytes : (κ : _) (a : _) (r : _) (t : _) → line.Post κ a r t → a.0.now ≡ [] → take r t.1.0.now ≡ text "NO 1 1 0" ++ (10 ∷ [])
@@ -228,12 +227,12 @@ first_unplaced [] f = absurd (nothing f)
 first_unplaced (test ok (turned n b p) ∷ rs) (here e) = refl
 first_unplaced (test ok (turned n b p) ∷ rs) (later e f) = first_unplaced rs f
 
-pub of_slot : (κ : _) (a : _) (r : _) (t : _) → slot.Post κ a r t → (u : Turned) → (paper_slot r ≡ refuses u) ↔ First (slot_fields a.0 a.1.0) u
+pub of_slot : (κ : _) (a : _) (r : _) (t : _) → slot.Post κ a r t → (u : Turned) → (paper_reply r ≡ refuses u) ↔ First (slot_fields a.0 a.1.0) u
 unfolding shot
 of_slot = first.of_slot
 
 pub of_frame_number : (κ : _) (a : _) (r : _) (t : _) → frame_number.Post κ a r t → (u : Turned)
-    → (paper_frame r ≡ refuses u) ↔ First (film_fields a.0 a.1.0 a.1.1.0 a.1.1.1.0) u
+    → (paper_reply r ≡ refuses u) ↔ First (film_fields a.0 a.1.0 a.1.1.0 a.1.1.1.0) u
 unfolding shots
 of_frame_number = first.of_frame_number
 
@@ -253,7 +252,7 @@ unfolding answer_of
 of_hsd_accept κ a r t p = rw p (λ h. rw (← fields_are a.0.now) ((first_fails (checks a.0.now) _).0 (reply_refused file_shows (judge fine (checks a.0.now)) (facts_of a.0.now) h)))
 
 lent_for : (ok : Bool) (s : _) (marks : _) (size : ℕ) (f : File) (u : Turned) → First (tables (lent ok ∷ offering s marks size f ∷ [])) u → Concerns (f ∷ []) u
-unfolding tables lent
+unfolding lent
 lent_for ok s marks size f u h = between (f ∷ []) (lent ok) (offering s marks size f) [] u refl refl (offered_for s marks size f u) h
 
 pub of_hsd_offer : (κ : _) (a : _) (r : _) (t : _) → hsd_offer.Post κ a r t → (r.refusal ≡ 0 → ⊥) → Concerns (a.1.1.1.0.now ∷ []) (turned r.refusal r.block r.offset)

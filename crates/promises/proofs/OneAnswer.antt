@@ -1,32 +1,26 @@
 -- No second answer fits the contract of a public function, and none leaves other bytes in lent memory.
 -- `Post` is the contract as the source has it. Assumes nothing.
-use Rattle.std.proofs.Common.{sym, ◌∙◌}
+use Rattle.std.proofs.Common.{◌≡◌, sym, ◌∙◌}
 use Rattle.promises.specs.Answers.{One}
 use Rattle.rules.proofs.Paper.{paper_one}
-use Rattle.calendar.proofs.Paper.{paper_day_one, paper_slot_one, paper_frame_one}
-use Rattle.accept.proofs.Paper.{paper_answer_one}
-use Rattle.slate.proofs.Paper.{slated_one, paper_reason_one}
-use Rattle.reel.proofs.Paper.{paper_opened_one}
+use Rattle.calendar.proofs.Paper.{paper_day_one}
+use Rattle.slate.proofs.Paper.{slated_one}
+use Rattle.promises.proofs.Refusals.{reply_one}
 use Rattle.wire.proofs.byte_at.Reads as byte_at
 use Rattle.wire.proofs.left.Reads as left
 use Rattle.wire.proofs.rest.Reads as rest
 use Rattle.wire.proofs.piece.Reads as piece
-use Rattle.wire.proofs.u16_at.Reads as u16_at
-use Rattle.wire.proofs.u32_at.Reads as u32_at
-use Rattle.wire.proofs.u64_at.Reads as u64_at
-use Rattle.wire.proofs.fill.Reads as fill
+use Rattle.wire.proofs.bytes_at.Reads as bytes_at
+use Rattle.wire.proofs.number_at.Reads as number_at
+use Rattle.wire.proofs.put_bytes.Reads as put_bytes
+use Rattle.wire.proofs.put_number.Reads as put_number
+use Rattle.wire.proofs.U16Word2.to_bytes.Reads as two_bytes
+use Rattle.wire.proofs.U32Word4.to_bytes.Reads as four_bytes
+use Rattle.wire.proofs.U64Word8.to_bytes.Reads as eight_bytes
 use Rattle.wire.proofs.same.Reads as same
 use Rattle.wire.proofs.put.Reads as put
-use Rattle.wire.proofs.put2.Reads as put2
-use Rattle.wire.proofs.put4.Reads as put4
-use Rattle.wire.proofs.put40.Reads as put40
-use Rattle.wire.proofs.put256.Reads as put256
 use Rattle.wire.proofs.put_byte.Reads as put_byte
-use Rattle.wire.proofs.four_bytes.Reads as four_bytes
-use Rattle.wire.proofs.put_u16.Reads as put_u16
-use Rattle.wire.proofs.put_u32.Reads as put_u32
-use Rattle.wire.proofs.put_u64.Reads as put_u64
-use Rattle.rules.proofs.check.Reads as check
+use Rattle.rules.proofs.require.Reads as require
 use Rattle.rules.proofs.number_of.Reads as number_of
 use Rattle.rules.proofs.placeless.Reads as placeless
 use Rattle.calendar.proofs.day_of.Reads as day_of
@@ -82,7 +76,6 @@ use Rattle.slate.proofs.Slate.why.Reads as slate_why
 use Rattle.frame.proofs.empty.Reads as empty
 use Rattle.frame.proofs.is_marked.Reads as is_marked
 use Rattle.frame.proofs.tally.Reads as tally
-use Rattle.frame.proofs.one.Reads as one
 use Rattle.samples.proofs.paper.Reads as paper_plan
 use Rattle.samples.proofs.make.Reads as make_sample
 use Rattle.frame.proofs.open.Reads as opening
@@ -103,7 +96,7 @@ use Rattle.reel.proofs.file_of.Reads as file_of
 use Rattle.reel.proofs.trailer_length.Reads as trailer_length
 use Rattle.reel.proofs.write.Reads as write_reel
 use Rattle.reel.proofs.seal.Reads as seal
-use Rattle.plugin.proofs.answer_of.Reads as answer_of
+use Rattle.plugin.proofs.HsdAnswerFromResultUnitRefusal.from.Reads as answer_of
 use Rattle.plugin.proofs.hsd_accept.Reads as hsd_accept
 use Rattle.plugin.proofs.hsd_read_count.Reads as hsd_read_count
 use Rattle.plugin.proofs.hsd_reading.Reads as hsd_reading
@@ -154,17 +147,31 @@ rest_one κ a x y s t p q = p ∙ sym q
 pub piece_one : One (λ κ x s. x.now) piece.Post
 piece_one κ a x y s t p q = p ∙ sym q
 
-pub u16_at_one : One (λ κ x s. x) u16_at.Post
-u16_at_one κ a x y s t p q = p ∙ sym q
+-- The functions of a width: n is the width and `word` the number that a value of the type is. That of a u16, a u32 or a u64 is the value itself.
+pub bytes_at_one : (n d : _) → One (λ κ x s. x) (bytes_at.Post n d)
+bytes_at_one n d κ a x y s t p q = p ∙ sym q
 
-pub u32_at_one : One (λ κ x s. x) u32_at.Post
-u32_at_one κ a x y s t p q = p ∙ sym q
+pub number_at_one : (n L A d C word D e F : _) → One (λ κ x s. word.number x) (number_at.Post n L A d C word D e F)
+number_at_one n L A d C word D e F κ a x y s t p q = p ∙ sym q
 
-pub u64_at_one : One (λ κ x s. x) u64_at.Post
-u64_at_one κ a x y s t p q = p ∙ sym q
+pub value_at_one : (n L A d C word D e F κ a x y s t : _) → number_at.Post n L A d C word D e F κ a x s → number_at.Post n L A d C word D e F κ a y t
+    → ((u v : _) → word.number u ≡ word.number v → u ≡ v) → x ≡ y
+value_at_one n L A d C word D e F κ a x y s t p q told = told x y (p ∙ sym q)
 
-pub fill_one : One (λ κ x s. s.0.now) fill.Post
-fill_one κ a x y s t p q = p ∙ sym q
+pub put_bytes_one : (n d : _) → One (λ κ x s. s.0.now) (put_bytes.Post n d)
+put_bytes_one n d κ a x y s t p q = p.is ∙ sym q.is
+
+pub put_number_one : (n L A d C word D e F : _) → One (λ κ x s. s.0.now) (put_number.Post n L A d C word D e F)
+put_number_one n L A d C word D e F κ a x y s t p q = p.is ∙ sym q.is
+
+pub two_bytes_one : One (λ κ x s. x) two_bytes.Post
+two_bytes_one κ a x y s t p q = p ∙ sym q
+
+pub four_bytes_one : One (λ κ x s. x) four_bytes.Post
+four_bytes_one κ a x y s t p q = p ∙ sym q
+
+pub eight_bytes_one : One (λ κ x s. x) eight_bytes.Post
+eight_bytes_one κ a x y s t p q = p ∙ sym q
 
 pub same_one : One (λ κ x s. x) same.Post
 same_one κ a x y s t p q = p ∙ sym q
@@ -172,35 +179,11 @@ same_one κ a x y s t p q = p ∙ sym q
 pub put_one : One (λ κ x s. s.0.now) put.Post
 put_one κ a x y s t p q = p ∙ sym q
 
-pub put2_one : One (λ κ x s. s.0.now) put2.Post
-put2_one κ a x y s t p q = p.is ∙ sym q.is
-
-pub put4_one : One (λ κ x s. s.0.now) put4.Post
-put4_one κ a x y s t p q = p.is ∙ sym q.is
-
-pub put40_one : One (λ κ x s. s.0.now) put40.Post
-put40_one κ a x y s t p q = p.is ∙ sym q.is
-
-pub put256_one : One (λ κ x s. s.0.now) put256.Post
-put256_one κ a x y s t p q = p.is ∙ sym q.is
-
 pub put_byte_one : One (λ κ x s. s.0.now) put_byte.Post
 put_byte_one κ a x y s t p q = p.is ∙ sym q.is
 
-pub four_bytes_one : One (λ κ x s. x) four_bytes.Post
-four_bytes_one κ a x y s t p q = p ∙ sym q
-
-pub put_u16_one : One (λ κ x s. s.0.now) put_u16.Post
-put_u16_one κ a x y s t p q = p.is ∙ sym q.is
-
-pub put_u32_one : One (λ κ x s. s.0.now) put_u32.Post
-put_u32_one κ a x y s t p q = p.is ∙ sym q.is
-
-pub put_u64_one : One (λ κ x s. s.0.now) put_u64.Post
-put_u64_one κ a x y s t p q = p.is ∙ sym q.is
-
-pub check_one : One (λ κ x s. x) check.Post
-check_one κ a x y s t p q = paper_one x y (p ∙ sym q)
+pub require_one : One (λ κ x s. x) require.Post
+require_one κ a x y s t p q = paper_one x y (p ∙ sym q)
 
 pub number_of_one : One (λ κ x s. x) number_of.Post
 number_of_one κ a x y s t p q = p ∙ sym q
@@ -218,10 +201,10 @@ pub good_timeline_one : One (λ κ x s. x) good_timeline.Post
 good_timeline_one κ a x y s t p q = p ∙ sym q
 
 pub slot_one : One (λ κ x s. x) slot.Post
-slot_one κ a x y s t p q = paper_slot_one x y (p ∙ sym q)
+slot_one κ a x y s t p q = reply_one x y (p ∙ sym q)
 
 pub frame_number_one : One (λ κ x s. x) frame_number.Post
-frame_number_one κ a x y s t p q = paper_frame_one x y (p ∙ sym q)
+frame_number_one κ a x y s t p q = reply_one x y (p ∙ sym q)
 
 pub read_one : One (λ κ x s. x) read.Post
 read_one κ a x y s t p q = p ∙ sym q
@@ -302,7 +285,7 @@ pub check_name_one : One (λ κ x s. x) check_name.Post
 check_name_one κ a x y s t p q = paper_one x y (p ∙ sym q)
 
 pub accept_one : One (λ κ x s. x) accept.Post
-accept_one κ a x y s t p q = paper_answer_one x y (p ∙ sym q)
+accept_one κ a x y s t p q = reply_one x y (p ∙ sym q)
 
 pub check_file_one : One (λ κ x s. x) check_file.Post
 check_file_one κ a x y s t p q = paper_one x y (p ∙ sym q)
@@ -356,16 +339,13 @@ pub slate_matches_one : One (λ κ x s. x) slate_matches.Post
 slate_matches_one κ a x y s t p q = p ∙ sym q
 
 pub slate_why_one : One (λ κ x s. x) slate_why.Post
-slate_why_one κ a x y s t p q = paper_reason_one x y (p ∙ sym q)
+slate_why_one κ a x y s t p q = reply_one x y (p ∙ sym q)
 
 pub is_marked_one : One (λ κ x s. x) is_marked.Post
 is_marked_one κ a x y s t p q = p ∙ sym q
 
 pub tally_one : One (λ κ x s. x) tally.Post
 tally_one κ a x y s t p q = p ∙ sym q
-
-pub one_one : One (λ κ x s. x) one.Post
-one_one κ a x y s t p q = p.0 ∙ sym q.0
 
 -- the verdict with the newest record, and every count of the frame afterwards
 pub empty_one : One (λ κ x s. x) empty.Post
@@ -508,7 +488,7 @@ pub check_reel_one : One (λ κ x s. x) check_reel.Post
 check_reel_one κ a x y s t p q = paper_one x y (p ∙ sym q)
 
 pub open_reel_one : One (λ κ x s. x) open_reel.Post
-open_reel_one κ a x y s t p q = paper_opened_one x y (p ∙ sym q)
+open_reel_one κ a x y s t p q = reply_one x y (p ∙ sym q)
 
 pub place_in_reel_one : One (λ κ x s. x) place_in_reel.Post
 place_in_reel_one κ a x y s t p q = p ∙ sym q

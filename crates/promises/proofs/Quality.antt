@@ -2,7 +2,7 @@
 -- Assumes nothing; a byte is given by its bits, and every byte has them (`every_byte`).
 use Rattle.std.proofs.Common.{ℕ, zero, suc, ◌+◌, ◌*◌, ◌/◌, ◌%◌, ◌≤◌, ◌≡◌, refl, sym, ap, ◌∙◌, Bool, true, false, cond, List, eqb, arith, ne_eqb}
 use Rattle.wire.specs.Wire.{Bytes}
-use Rattle.rules.specs.declared.Verdict.{Verdict}
+use Rattle.rules.specs.Rules.{Verdict}
 use Rattle.header.specs.declared.Header.{Header}
 use Rattle.header.specs.Encode.{Entries}
 use Rattle.reading.specs.declared.Mark.{Mark}

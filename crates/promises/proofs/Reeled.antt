@@ -5,7 +5,7 @@ use Rattle.std.proofs.Math.Bool.{and-eq-true_iff}
 use borrow.Author.Tests.{lt-leb}
 use Rattle.wire.specs.Wire.{Bytes, eqs, join}
 use Rattle.wire.proofs.Pieces.{num_span_lt}
-use Rattle.rules.specs.Rules.{Turned, turned, Ruling, fine, refused, row, checked, judge, tables, Reply, says, refuses, reply, after}
+use Rattle.rules.specs.Rules.{Turned, turned, Ruling, fine, refused, Row, row, judge, Reply, says, refuses, after}
 use Rattle.rules.proofs.Judge.{judge_append, judge_refused, each_is, exactly, each_of, holds, said}
 use Rattle.accept.specs.Checks.{checks}
 use Rattle.reel.specs.Ends.{letters, ending, count_of, trailer_at, good_end}
@@ -45,30 +45,30 @@ sound_laid s b e =
 -- ---- opening
 
 first_bad : (fs gs : List File) (f : File) (u : Turned) → Good fs → judge fine (checks f) ≡ refused u → judge fine (filed (fs ++ (f ∷ gs))) ≡ refused u
-unfolding filed tables
+unfolding filed
 first_bad [] gs f u g e = judge_append fine (checks f) (filed gs) ∙ rw e (judge_refused u (filed gs))
 first_bad (h ∷ fs) gs f u g e = judge_append fine (checks h) (filed (fs ++ (f ∷ gs))) ∙ rw g.0 (first_bad fs gs f u g.1 e)
 
 part_bad : (s : List ℕ) (fs gs : List File) (f : File) (u : Turned) → sound s ≡ true → parts_of s ≡ fs ++ (f ∷ gs) → Good fs → judge fine (checks f) ≡ refused u → judge fine (opening s) ≡ refused u
-unfolding opening tables checked
+unfolding opening
 part_bad s fs gs f u t q g e = rw (t, q) (judge_append fine (filed (fs ++ (f ∷ gs))) [] ∙ first_bad fs gs f u g e)
 
 all_fine : (s : List ℕ) → sound s ≡ true → Good (parts_of s) → judge fine (opening s) ≡ fine
 unfolding opening
-all_fine s t g = (exactly (opening s)).1 (each_of _ (holds (holds t tt) (holds (good_all (parts_of s) g) tt)))
+all_fine s t g = (exactly (opening s)).1 (each_of ((row (sound s) 18 0 0 ∷ []) ∷ filed (parts_of s) ∷ []) (holds (holds t tt) (holds (good_all (parts_of s) g) tt)))
 
 -- a reel opens
 pub opened_good : {s : List ℕ} {fs : List File} → Reel s fs → opened s ≡ says (length fs)
-unfolding opened reply
+unfolding opened
 opened_good {s} {fs} r = let h = laid_has r.laid in rw (all_fine s h.trailer (rw h.parts r.files), h.count)
 
 -- under a sound trailer the first bad part answers
 pub opened_bad : {s : List ℕ} (fs gs : List File) (f : File) (u : Turned) → Laid s (fs ++ (f ∷ gs)) → Good fs → judge fine (checks f) ≡ refused u → opened s ≡ refuses u
-unfolding opened reply
+unfolding opened
 opened_bad {s} fs gs f u l g e = let h = laid_has l in rw (part_bad s fs gs f u h.trailer h.parts g e)
 
 unsound : (s : List ℕ) → sound s ≡ false → opened s ≡ refuses (turned 18 0 0)
-unfolding opened reply opening
+unfolding opened opening
 unsound s e = rw (first_row (sound s) (turned 18 0 0) _ e)
 
 -- a trailer of no parts at all is told first
@@ -84,7 +84,7 @@ pub opened_back : (s : List ℕ) (n : ℕ) → Bytes s → opened s ≡ says n �
 unfolding opened opening
 opened_back s n b e =
     let a = said (judge fine (opening s)) (count_of s) n e in
-    let k = each_is _ ((exactly (opening s)).0 a.0) in
+    let k = each_is ((row (sound s) 18 0 0 ∷ []) ∷ filed (parts_of s) ∷ []) ((exactly (opening s)).0 a.0) in
     (record { laid = sound_laid s b k.0.0; files = all_good (parts_of s) k.1.0 }, sym a.1 ∙ sym (length_parts s (trailer_at s) (count_of s)))
 
 -- ---- the files by their numbers
@@ -164,19 +164,23 @@ good_fits s ls e =
 
 -- ---- writing
 
+-- the tables of a list that is to be written
+abbrev three : List ℕ → List ℕ → ℕ → ℕ → List (List Row)
+three s ls need room = (row (good_list s ls) 18 0 0 ∷ []) ∷ filed (listed s ls) ∷ (row (leb need room) 17 0 0 ∷ []) ∷ []
+
 module _ {s ls : List ℕ} (out bs : List ℕ) where
   wrote_own : (fs gs : List File) (f : File) (u : Turned) → Handed s ls (fs ++ (f ∷ gs)) → Fits (fs ++ (f ∷ gs)) → Good fs → Own f u → wrote s ls bs out ≡ refused u
-  unfolding writing tables checked
+  unfolding writing
   wrote_own fs gs f u h t g e = rw (handed_good h t, handed_listed h) (judge_append fine (filed (fs ++ (f ∷ gs))) _ ∙ rw (first_bad fs gs f u g e) (judge_refused u (row (leb (length bs) (length out)) 17 0 0 ∷ [])))
 
   wrote_good : {fs : List File} → Handed s ls fs → Fits fs → Good fs → length bs ≤ length out → wrote s ls bs out ≡ fine
   unfolding writing
   wrote_good {fs} h f g r =
       (exactly (writing s ls (length bs) (length out))).1
-      (each_of _ (holds (holds (handed_good h f) tt) (holds (good_all (listed s ls) (rw (handed_listed h) g)) (holds (holds (le-leb (length bs) (length out) r) tt) tt))))
+      (each_of (three s ls (length bs) (length out)) (holds (holds (handed_good h f) tt) (holds (good_all (listed s ls) (rw (handed_listed h) g)) (holds (holds (le-leb (length bs) (length out) r) tt) tt))))
 
   wrote_room : {fs : List File} → Handed s ls fs → Fits fs → Good fs → length out < length bs → wrote s ls bs out ≡ refused (turned 17 0 0)
-  unfolding writing tables checked
+  unfolding writing
   wrote_room {fs} h t g r =
       rw (handed_good h t, handed_listed h) (judge_append fine (filed fs) _ ∙ rw ((exactly (filed fs)).1 (good_all fs g), lt-leb (length bs) (length out) r))
 
@@ -185,14 +189,14 @@ module _ {s ls : List ℕ} (out bs : List ℕ) where
   wrote_reel none = go (good_list s ls) refl
     where
       go : (b : Bool) → good_list s ls ≡ b → wrote s ls bs out ≡ refused (turned 18 0 0)
-      go false e = first_row (good_list s ls) (turned 18 0 0) _ e
+      go false e = first_row (good_list s ls) (turned 18 0 0) (filed (listed s ls) ∷ (row (leb (length bs) (length out)) 17 0 0 ∷ []) ∷ []) e
       go true e = let g = good_fits s ls e in absurd (none (listed s ls) g.0 g.1)
 
   -- what is fine was a list that a reel can hold, of accepted files
   pub wrote_back : wrote s ls bs out ≡ fine → Handed s ls (listed s ls) × Fits (listed s ls) × Good (listed s ls)
   unfolding writing
   wrote_back e =
-      let k = each_is _ ((exactly (writing s ls (length bs) (length out))).0 e) in
+      let k = each_is (three s ls (length bs) (length out)) ((exactly (writing s ls (length bs) (length out))).0 e) in
       let g = good_fits s ls k.0.0 in
       (g.0, g.1, all_good (listed s ls) k.1.0)
 

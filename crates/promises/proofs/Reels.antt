@@ -2,18 +2,15 @@
 -- string and list. Each theorem is of the functions' own answers: `Post` is a function's contract as its source has it. `Bytes` is the bound of the
 -- slices' type.
 -- Assumes nothing.
-use Rattle.std.proofs.Common.{◌≡◌, refl, sym, ap, subst, ◌∙◌, true, List, [], ◌∷◌, ◌++◌, append-nil, map, ℕ, ◌+◌, ◌-◌, ◌≤◌, ◌<◌, arith, length, get_or, take, drop, length-append}
+use Rattle.std.proofs.Common.{◌≡◌, refl, sym, ap, subst, ◌∙◌, true, List, [], ◌∷◌, ◌++◌, append-nil, map, ℕ, ◌+◌, ◌-◌, ◌≤◌, ◌<◌, arith, length, get_or, take, drop, length-append, Ok}
 use Rattle.wire.specs.Wire.{Bytes, digits, lows, join}
-use Rattle.rules.specs.Rules.{Turned, turned, paper, fine, refused, judge, Reply, says, refuses}
-use Rattle.rules.specs.declared.Verdict.TheVariants.{Fine}
+use Rattle.rules.specs.Rules.{Turned, turned, paper, fine, refused, judge, Reply, says, refuses, paper_reply}
 use Rattle.accept.specs.Checks.{checks}
 use Rattle.accept.proofs.verdict.Reads as verdict
-use Rattle.reel.specs.declared.Opened.TheVariants.{Files}
 use Rattle.reel.specs.Ends.{ending}
-use Rattle.reel.specs.Reels.{File, entries, trailer_of, trailer_length, reel_of, parts_of, paper_opened, opened, file_of}
+use Rattle.reel.specs.Reels.{File, entries, trailer_of, trailer_length, reel_of, parts_of, opened, file_of}
 use Rattle.reel.specs.Reels as reels
 use Rattle.reel.specs.Writing.{listed, writing, wrote}
-use Rattle.reel.proofs.Paper.{paper_opened_one}
 use Rattle.reel.proofs.Lists.{length_all, length_entries}
 use Rattle.reel.proofs.Writing.{length_none, length_many, length_some}
 use Rattle.reel.proofs.open.Reads as opening
@@ -34,7 +31,7 @@ use Rattle.plugin_reels.proofs.hsd_reel_seal.Reads as hsd_seal
 use Rattle.promises.specs.Blocks.{allowed}
 use Rattle.promises.specs.Reels.{Fits, Laid, Reel, Handed, Own, Opening, Writing}
 use Rattle.promises.proofs.Demand1.{in_reel, in_writing}
-use Rattle.promises.proofs.Refusals.{refused_in, refuses_in, none_fine}
+use Rattle.promises.proofs.Refusals.{refused_in, refuses_in, none_fine, reply_one}
 use Rattle.promises.proofs.Runs.{shown_fine}
 use Rattle.promises.proofs.Reeled as reeled
 use Rattle.promises.proofs.Reeled.{opened_good, opened_back, placed, after_last, zeroth, handed_listed, front, sealed, front_reel, sealed_reel, writings, openings}
@@ -49,8 +46,8 @@ one_list = reeled.one_list
 
 -- ---- opening: what every byte string is told
 
-pub opens : (κ : _) (a : _) (r : _) (t : _) → opening.Post κ a r t → Opening (λ x. paper_opened r ≡ x) a.0.now
-opens κ a r t p = openings (λ x. paper_opened r ≡ x) a.0.now (paper_opened r) p refl
+pub opens : (κ : _) (a : _) (r : _) (t : _) → opening.Post κ a r t → Opening (λ x. paper_reply r ≡ x) a.0.now
+opens κ a r t p = openings (λ x. paper_reply r ≡ x) a.0.now (paper_reply r) p refl
 
 pub opens_c : (κ : _) (a : _) (r : _) (t : _) → hsd_open.Post κ a r t → Opening (λ x. r ≡ shown_reel x) a.0.now
 opens_c κ a r t p = openings (λ x. r ≡ shown_reel x) a.0.now (opened a.0.now) refl p
@@ -66,8 +63,7 @@ unfolding opened
 in_opened s u e = refuses_in (reels.opening s) (in_reel s) _ u e
 
 -- only reels open
-pub only : (κ : _) (a : _) (n : _) (t : _) → opening.Post κ a (Files n) t → Bytes a.0.now → Reel a.0.now (parts_of a.0.now) × (n ≡ length (parts_of a.0.now))
-unfolding paper_opened
+pub only : (κ : _) (a : _) (n : _) (t : _) → opening.Post κ a (Ok n) t → Bytes a.0.now → Reel a.0.now (parts_of a.0.now) × (n ≡ length (parts_of a.0.now))
 only κ a n t p b = opened_back a.0.now n b (sym p)
 
 pub only_c : (κ : _) (a : _) (r : _) (t : _) → hsd_open.Post κ a r t → Bytes a.0.now → r.refusal ≡ 0
@@ -159,32 +155,29 @@ module _ {files lengths s : List ℕ} (w : Reel s (listed files lengths)) (fs : 
   back : Reel s fs
   back = subst (λ (l : List File). Reel s l) (handed_listed h) w
 
-  number_is : (κ : _) (a : _) (r : _) (t : _) → opening.Post κ a r t → a.0.now ≡ s → r ≡ Files (length fs)
-  unfolding paper_opened
-  number_is κ a r t p e = paper_opened_one r (Files (length fs)) (p ∙ ap opened e ∙ opened_good back)
+  number_is : (κ : _) (a : _) (r : _) (t : _) → opening.Post κ a r t → a.0.now ≡ s → r ≡ Ok (length fs)
+  number_is κ a r t p e = reply_one r (Ok (length fs)) (p ∙ ap opened e ∙ opened_good back)
 
   number_is_c : (κ : _) (a : _) (r : _) (t : _) → hsd_open.Post κ a r t → a.0.now ≡ s → r ≡ record { refusal = 0; block = 0; files = length fs; offset = 0 }
   unfolding shown_reel
   number_is_c κ a r t p e = p ∙ ap (λ (l : List ℕ). shown_reel (opened l)) e ∙ ap shown_reel (opened_good back)
 
-module _ (κ : _) (a : _) (t : _) (p : write.Post κ a Fine t) (fs : List File) (h : Handed a.0.now a.1.0.now fs) where
+module _ (κ : _) (a : _) (t : _) (p : write.Post κ a (Ok tt) t) (fs : List File) (h : Handed a.0.now a.1.0.now fs) where
   written_reel : Reel (front a.0.now a.1.0.now t.1.1.0.now) (listed a.0.now a.1.0.now)
-  unfolding paper
   written_reel = rw p.1 (front_reel a.0.now a.1.0.now a.1.1.0.now (sym p.0))
 
-  pub same_number : (κ' : _) (b : _) (r : _) (u : _) → opening.Post κ' b r u → b.0.now ≡ front a.0.now a.1.0.now t.1.1.0.now → r ≡ Files (length fs)
+  pub same_number : (κ' : _) (b : _) (r : _) (u : _) → opening.Post κ' b r u → b.0.now ≡ front a.0.now a.1.0.now t.1.1.0.now → r ≡ Ok (length fs)
   same_number = number_is written_reel fs h
 
   pub same_files : (κ' : _) (b : _) (r : _) (u : _) → file_of_reads.Post κ' b r u → b.0.now ≡ front a.0.now a.1.0.now t.1.1.0.now
       → 1 ≤ b.1.0 → b.1.0 ≤ length fs → r.now ≡ get_or fs (b.1.0 - 1) []
   same_files = file (back written_reel fs h).laid
 
-module _ (κ : _) (a : _) (t : _) (p : seal.Post κ a Fine t) (fs : List File) (h : Handed a.0.now a.1.0.now fs) where
+module _ (κ : _) (a : _) (t : _) (p : seal.Post κ a (Ok tt) t) (fs : List File) (h : Handed a.0.now a.1.0.now fs) where
   seals_reel : Reel (sealed a.0.now a.1.0.now t.1.1.0.now) (listed a.0.now a.1.0.now)
-  unfolding paper
   seals_reel = rw p.1 (sealed_reel a.0.now a.1.0.now a.1.1.0.now (sym p.0))
 
-  pub sealed_number : (κ' : _) (b : _) (r : _) (u : _) → opening.Post κ' b r u → b.0.now ≡ sealed a.0.now a.1.0.now t.1.1.0.now → r ≡ Files (length fs)
+  pub sealed_number : (κ' : _) (b : _) (r : _) (u : _) → opening.Post κ' b r u → b.0.now ≡ sealed a.0.now a.1.0.now t.1.1.0.now → r ≡ Ok (length fs)
   sealed_number = number_is seals_reel fs h
 
   pub sealed_files : (κ' : _) (b : _) (r : _) (u : _) → file_of_reads.Post κ' b r u → b.0.now ≡ sealed a.0.now a.1.0.now t.1.1.0.now

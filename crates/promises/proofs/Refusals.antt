@@ -1,15 +1,16 @@
 -- Laws of refusals: they are the paper's table's, and what is lent stays as it was.
 -- Assumes nothing.
-use Rattle.std.proofs.Common.{◌≡◌, refl, sym, ap, ◌∙◌, Bool, true, false, not, cond, ◌&&◌, ◌||◌, List, [], ◌∷◌, ◌++◌, ℕ, arith, eqb, leb, eqb-true, length, drop, ℤ, pos}
+use Rattle.std.proofs.Common.{◌≡◌, refl, sym, ap, ◌∙◌, Bool, true, false, not, cond, ◌&&◌, ◌||◌, List, [], ◌∷◌, ◌++◌, ℕ, arith, eqb, leb, eqb-true, length, drop, ℤ, pos, Option, Some, None, Result, Ok, Err}
 use Rattle.std.proofs.Math.Bool.{and-eq-true_iff, or-true}
-use Rattle.rules.specs.Rules.{Turned, turned, Row, test, Ruling, fine, refused, judge, checked, after, Reply, says, refuses, reply}
+use Rattle.rules.specs.Rules.{Turned, turned, Row, test, Ruling, fine, refused, judge, after, Reply, says, refuses, reply, paper_reply}
+use Rattle.rules.specs.declared.Refusal.{Refusal}
+use Rattle.rules.proofs.Paper.{refusal_of, refusal_paper}
 use Rattle.rules.proofs.Judge.{judge_refused, turned_away}
 use Rattle.accept.specs.declared.Facts.{Facts}
 use Rattle.plugin.specs.declared.HsdFile.{HsdFile}
 use Rattle.plugin.specs.declared.HsdFrameNumber.{HsdFrameNumber}
 use Rattle.plugin.specs.Plugin.{shown_ruling, shown_file, shown_frame}
-use Rattle.slate.specs.declared.Compared.{Compared}
-use Rattle.slate.specs.declared.Compared.TheVariants.{Agrees, Differs}
+use Rattle.slate.specs.declared.Difference.{Difference}
 use Rattle.plugin_frames.specs.Strips.{copied_of, copy_of}
 use Rattle.plugin_frames.specs.declared.HsdWhy.{HsdWhy}
 use Rattle.plugin_frames.specs.Reasons.{shown_reason}
@@ -18,12 +19,24 @@ use Rattle.plugin_reels.specs.Reels.{shown_reel}
 use Rattle.promises.specs.Bare.{Bare}
 use Rattle.promises.specs.Blocks.{table, listed, allowed, allowed_c, in_table, Onward}
 
+-- the paper's words tell replies apart
+abbrev reply_as : {A : Type 0} → Reply A → Result A Refusal
+reply_as (says a) = Ok a
+reply_as (refuses t) = Err (refusal_of t)
+
+reply_back : {A : Type 0} (r : Result A Refusal) → reply_as (paper_reply r) ≡ r
+reply_back (Ok a) = refl
+reply_back (Err t) = ap Err (refusal_paper t)
+
+pub reply_one : {A : Type 0} (x y : Result A Refusal) → paper_reply x ≡ paper_reply y → x ≡ y
+reply_one x y e = sym (reply_back x) ∙ ap reply_as e ∙ reply_back y
+
 same_turned : (t u : Turned) → refused t ≡ refused u → t ≡ u
 same_turned t u e = cc
 
 -- what a table refuses is one of its rows' refusals
 pub refused_in : (rs : List Row) → in_table rs ≡ true → (t : Turned) → judge fine rs ≡ refused t → allowed t ≡ true
-unfolding in_table checked
+unfolding in_table
 refused_in [] h t e = absurd (let z : ◌≡◌ {A = ℕ} 0 1 = cc in omega arith)
 refused_in (test true u ∷ rs) h t e = refused_in rs ((and-eq-true_iff (allowed u) (in_table rs)).0 h).1 t e
 refused_in (test false u ∷ rs) h t e =
@@ -120,17 +133,14 @@ pub record Shows {A R : Type 0} (show : Reply A → R) (refusal block offset : R
 
 module _ {A R : Type 0} {show : Reply A → R} {refusal block offset : R → ℕ} (c : Shows show refusal block offset) where
   pub reply_allowed : (rs : List Row) → in_table rs ≡ true → (v : Ruling) (x : A) → v ≡ judge fine rs → allowed_c (refusal (show (reply v x))) (block (show (reply v x))) (offset (show (reply v x))) ≡ true
-  unfolding reply
   reply_allowed rs h fine x e = rw (c.value x)
   reply_allowed rs h (refused (turned n b p)) x e = rw (c.number n b p, c.in_block n b p, c.at_offset n b p, refused_in rs h (turned n b p) (sym e)) (or-true (eqb n 0))
 
   pub reply_fine : (rs : List Row) → in_table rs ≡ true → (v : Ruling) (x : A) → v ≡ judge fine rs → refusal (show (reply v x)) ≡ 0 → v ≡ fine
-  unfolding reply
   reply_fine rs h fine x e z = refl
   reply_fine rs h (refused (turned n b p)) x e z = absurd (none_fine n b p (refused_in rs h (turned n b p) (sym e)) (sym (c.number n b p) ∙ z))
 
   pub reply_refused : (v : Ruling) (x : A) → (refusal (show (reply v x)) ≡ 0 → ⊥) → v ≡ refused (turned (refusal (show (reply v x))) (block (show (reply v x))) (offset (show (reply v x))))
-  unfolding reply
   reply_refused fine x h = absurd (h (c.value x))
   reply_refused (refused (turned n b p)) x h = rw (c.number n b p, c.in_block n b p, c.at_offset n b p)
 
@@ -146,10 +156,10 @@ pub reel_shows : Shows shown_reel (λ (r : HsdReel). r.refusal) (λ (r : HsdReel
 unfolding shown_reel
 reel_shows = record { value = λ x. refl; number = λ n b p. refl; in_block = λ n b p. refl; at_offset = λ n b p. refl }
 
-no_refusal : (x : Compared) → (shown_reason (says x)).refusal ≡ 0
+no_refusal : (x : Option Difference) → (shown_reason (says x)).refusal ≡ 0
 unfolding shown_reason
-no_refusal Agrees = refl
-no_refusal (Differs d) = refl
+no_refusal None = refl
+no_refusal (Some d) = refl
 
 pub why_shows : Shows shown_reason (λ (r : HsdWhy). r.refusal) (λ (r : HsdWhy). r.block) (λ (r : HsdWhy). r.offset)
 unfolding shown_reason
@@ -158,7 +168,7 @@ why_shows = record { value = no_refusal; number = λ n b p. refl; in_block = λ 
 -- ---- and a refusal shows nothing else
 
 pub bare : (v : Ruling) (x : Facts) → ((shown_file (reply v x)).refusal ≡ 0 → ⊥) → Bare (shown_file (reply v x))
-unfolding shown_file reply
+unfolding shown_file
 bare fine x h = absurd (h refl)
 bare (refused (turned n b p)) x h = record {
   satellite = refl;
@@ -180,17 +190,17 @@ bare (refused (turned n b p)) x h = record {
 }
 
 pub no_number : (v : Ruling) (x : ℤ) → ((shown_frame (reply v x)).refusal ≡ 0 → ⊥) → (shown_frame (reply v x)).number ≡ pos 0
-unfolding shown_frame reply
+unfolding shown_frame
 no_number fine x h = absurd (h refl)
 no_number (refused (turned n b p)) x h = refl
 
 pub no_files : (v : Ruling) (x : ℕ) → ((shown_reel (reply v x)).refusal ≡ 0 → ⊥) → (shown_reel (reply v x)).files ≡ 0
-unfolding shown_reel reply
+unfolding shown_reel
 no_files fine x h = absurd (h refl)
 no_files (refused (turned n b p)) x h = refl
 
-pub no_part : (v : Ruling) (x : Compared) → ((shown_reason (reply v x)).refusal ≡ 0 → ⊥) → ((shown_reason (reply v x)).part ≡ 0) × ((shown_reason (reply v x)).slate ≡ 0) × ((shown_reason (reply v x)).file ≡ 0)
-unfolding shown_reason reply
-no_part fine Agrees h = absurd (h refl)
-no_part fine (Differs d) h = absurd (h refl)
+pub no_part : (v : Ruling) (x : Option Difference) → ((shown_reason (reply v x)).refusal ≡ 0 → ⊥) → ((shown_reason (reply v x)).part ≡ 0) × ((shown_reason (reply v x)).slate ≡ 0) × ((shown_reason (reply v x)).file ≡ 0)
+unfolding shown_reason
+no_part fine None h = absurd (h refl)
+no_part fine (Some d) h = absurd (h refl)
 no_part (refused (turned n b p)) x h = (refl, refl, refl)

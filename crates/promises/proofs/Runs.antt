@@ -1,10 +1,8 @@
 -- A run of C's calls is a run of the library's. Assumes nothing.
-use Rattle.std.proofs.Common.{◌≡◌, refl, sym, ap, ◌∙◌, Bool, true, false, List, [], ◌∷◌, ◌++◌, map, ℕ, zero, suc, ◌≤◌, ◌<◌, arith, length, get_or, drop, length-set, replicate, ext_get_or, eqb, le-leb, eq-eqb, eqb-true}
+use Rattle.std.proofs.Common.{◌≡◌, refl, sym, ap, ◌∙◌, Bool, true, false, List, [], ◌∷◌, map, ℕ, ◌≤◌, ◌<◌, arith, length, get_or, drop, length-set, replicate, ext_get_or, eqb, le-leb, eq-eqb, eqb-true}
 use Rattle.std.proofs.Math.Bool.{and-eq-true_iff}
-use Rattle.std.proofs.Math.ListN.{length-replicate, get_or-append}
-use Rattle.std.proofs.Math.Seq.{get_or_at}
+use Rattle.std.proofs.Math.ListN.{length-replicate}
 use mathlib.Core.List.{Memᴰ, Permᴰ}
-use borrow.Author.Tests.{eqb-false}
 use Rattle.wire.specs.Wire.{tab}
 use Rattle.wire.proofs.Rows.{length_tab, get_or_tab}
 use Rattle.rules.specs.Rules.{Ruling, Turned, turned, number_of, tables, fine, refused, paper, after}
@@ -26,8 +24,8 @@ use Rattle.assembly.proofs.Runs as runs
 use Rattle.plugin_frames.specs.declared.HsdSlate.{HsdSlate}
 use Rattle.plugin.specs.declared.HsdAnswer.{HsdAnswer}
 use Rattle.plugin.specs.Plugin.{shown_ruling}
-use Rattle.plugin_frames.specs.Strips.{long_marks, is_bit, bits_from, good_marks, lent, flags, marks_in, marks_out, opened_c, offered_c, open_marks, open_strip, offer_marks, line_c, copied_of, copy_of}
-use Rattle.plugin_frames.proofs.Lending.{length_flags, lent_good, offer_strip_lem}
+use Rattle.plugin_frames.specs.Strips.{long_marks, is_bit, bits_from, good_marks, lent, marks_in, marks_out, opened_c, offered_c, open_marks, open_strip, offer_marks, line_c, copied_of, copy_of}
+use Rattle.plugin_frames.proofs.Lending.{length_flags, flags_at, lent_good, offer_strip_lem}
 use Rattle.plugin_frames.proofs.hsd_open.Reads as hsd_open
 use Rattle.promises.specs.Blocks.{allowed}
 use Rattle.promises.specs.Slated.{slate_from}
@@ -37,18 +35,6 @@ use Rattle.promises.proofs.Demand1.{in_opening, in_offering, in_lent}
 
 -- ---- marks out and in again
 
-pub get_or_flags : (m : List ℕ) (n i : ℕ) → i < n → get_or (flags m n) i false ≡ eqb (get_or m i 0) 1
-unfolding flags
-get_or_flags m zero i h = absurd (omega arith)
-get_or_flags m (suc n) i h = go (eqb i n) refl (get_or_flags m n i)
-  where
-    go : (b : Bool) → eqb i n ≡ b → (i < n → get_or (flags m n) i false ≡ eqb (get_or m i 0) 1) → get_or (flags m n ++ (eqb (get_or m n 0) 1 ∷ [])) i false ≡ eqb (get_or m i 0) 1
-    go true e r = rw (eqb-true i n e) (get_or_at (flags m n) _ [] false n (length_flags m n))
-    go false e r =
-        let d = eqb-false i n e in
-        let l : i < length (flags m n) = rw (length_flags m n) (omega arith) in
-        get_or-append (flags m n) _ false i l ∙ r (omega arith)
-
 one_back : (b : Bool) → eqb (one_of b) 1 ≡ b
 one_back true = refl
 one_back false = refl
@@ -57,7 +43,7 @@ pub marks_back : (marks : List Bool) → length marks ≡ 99 → marks_in (marks
 marks_back marks h =
     ext_get_or false (marks_in (marks_out marks)) marks (length_flags (marks_out marks) 99 ∙ sym h)
     (λ i l. let k : i < 99 = rw (length_flags (marks_out marks) 99) at l in
-    get_or_flags (marks_out marks) 99 i k ∙ ap (λ (x : ℕ). eqb x 1) (get_or_tab (λ k. one_of (get_or marks k false)) 99 i k) ∙ one_back (get_or marks i false))
+    flags_at (marks_out marks) 99 i k ∙ ap (λ (x : ℕ). eqb x 1) (get_or_tab (λ k. one_of (get_or marks k false)) 99 i k) ∙ one_back (get_or marks i false))
 
 one_most : (b : Bool) → one_of b ≤ 1
 one_most true = omega arith
@@ -74,7 +60,7 @@ unfolding named
 number_back n b p e = eqb-true _ _ (of_number (λ k. eqb (number_of (named k)) k) refl n b p e)
 
 paper_back : (r : Ruling) → ((u : Turned) → r ≡ refused u → allowed u ≡ true) → paper (verdict_of r) ≡ r
-unfolding paper verdict_of refusal_of
+unfolding verdict_of refusal_of
 paper_back fine h = refl
 paper_back (refused (turned n b p)) h = rw (number_back n b p (h (turned n b p) refl))
 
@@ -126,7 +112,7 @@ long_after fine marks k = simp length-set
 long_after (refused u) marks k = refl
 
 pub lifted : {s : HsdSlate} {lent : List ℕ} {cs : List Offer} {marks frame : List ℕ} → RanC s lent cs marks frame → Lifted s lent cs marks frame
-unfolding open_marks open_strip offer_marks frames.opening slated frames.record_after verdict_of paper after
+unfolding open_marks open_strip offer_marks frames.opening slated frames.record_after verdict_of after
 lifted (opened κ a r t p es el z) =
     let strip = a.1.1.0.now in
     let m = a.1.0.now in

@@ -2,7 +2,7 @@
 use Rattle.std.proofs.Common.{◌≡◌, refl, ap, ◌∙◌, List, [], ◌∷◌, ◌++◌, append_assoc, append-nil, ℕ, ◌+◌, ◌-◌, ◌≤◌, ◌<◌, le-leb, eq-eqb, length, take, drop, get_or}
 use borrow.Author.Tests.{lt-leb}
 use Rattle.wire.specs.Wire.{span, num}
-use Rattle.rules.specs.Rules.{Row, Turned, turned, fine, refused, judge, First, here, later, tables, refuses, reply}
+use Rattle.rules.specs.Rules.{Row, Turned, turned, fine, refused, judge, First, here, later, tables, refuses}
 use Rattle.rules.proofs.Judge.{exactly, each_is, first_fails, first_table}
 use Rattle.header.specs.Places.{order_of, a_of, b_of, c_of, at2, at3, at4, at5, at6, at7, at8, at9, at10, at11, length8, length9, length10}
 use Rattle.accept.specs.Checks.{shape, entries, shape1, blocks1to4, blocks5to7, blocks8to11, whole, checks}
@@ -10,13 +10,11 @@ use Rattle.accept.specs.Answers.{answer_of}
 use Rattle.promises.specs.Short.{in_order, blocks, All, with_entries, AllAgain}
 
 tables_append : (ts us : List (List Row)) → tables (ts ++ us) ≡ tables ts ++ tables us
-unfolding tables
 tables_append [] us = refl
 tables_append (t ∷ ts) us = rw (tables_append ts us, append_assoc)
 
 -- four lists of tables, judged as one
 one_run : (ts us vs ws : List (List Row)) → tables (tables ts ∷ tables us ∷ tables vs ∷ tables ws ∷ []) ≡ tables (ts ++ (us ++ (vs ++ ws)))
-unfolding tables
 one_run ts us vs ws = rw (tables_append ts (us ++ (vs ++ ws)), tables_append us (vs ++ ws), tables_append vs ws, append-nil)
 
 in_order_lem : (s : List ℕ) → checks s ≡ tables (in_order s)
@@ -26,9 +24,9 @@ in_order_lem s = one_run (take 7 (in_order s)) (take 6 (drop 7 (in_order s))) (t
 -- a table in which a row fails, after tables whose tests all hold
 refuses_at : (s : List ℕ) (i : ℕ) (t : List Row) (u : Turned) → take i (in_order s) ++ (t ∷ drop (i + 1) (in_order s)) ≡ in_order s
     → judge fine (tables (take i (in_order s))) ≡ fine → First t u → answer_of s ≡ refuses u
-unfolding answer_of reply
+unfolding answer_of
 refuses_at s i t u e h f =
-    let g : First (tables (take i (in_order s) ++ (t ∷ drop (i + 1) (in_order s)))) u = first_table (take i (in_order s)) t (drop (i + 1) (in_order s)) (each_is _ ((exactly (tables (take i (in_order s)))).0 h)) f in
+    let g : First (tables (take i (in_order s) ++ (t ∷ drop (i + 1) (in_order s)))) u = first_table (take i (in_order s)) t (drop (i + 1) (in_order s)) (each_is (take i (in_order s)) ((exactly (tables (take i (in_order s)))).0 h)) f in
     let r : judge fine (checks s) ≡ refused u = ap (judge fine) (in_order_lem s) ∙ (first_fails (tables (in_order s)) u).1 (rw e at g) in
     rw r
 

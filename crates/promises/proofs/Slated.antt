@@ -12,7 +12,7 @@ use Rattle.slate.specs.Parts.{shot_parts, cut_parts, parts}
 use Rattle.slate.specs.Slates.{good_shot, good_slate, slated, matching, asking}
 use Rattle.slate.proofs.Parts.{same_exactly}
 use Rattle.tiling.proofs.Lawful.{both, and, either, or_left, or_right, timeline_is, timeline_of, area_is, area_of}
-use Rattle.rules.specs.Rules.{Turned, turned, Ruling, fine, refused, judge, here, tables, paper}
+use Rattle.rules.specs.Rules.{Turned, turned, Ruling, fine, refused, judge, here, paper}
 use Rattle.rules.proofs.Judge.{exactly, each_is, each_of, holds, first_fails, first_table}
 use Rattle.accept.specs.Checks.{checks}
 use Rattle.accept.specs.Answers.{facts_of}
@@ -137,7 +137,7 @@ module _ (s : Slate) where
 
 module _ (s : Slate) (f : List ℕ) where
   pub slate_first : (Good s → ⊥) → judge fine (asking s f) ≡ refused (turned 13 0 0)
-  unfolding asking slated tables
+  unfolding asking slated
   slate_first h = (first_fails (asking s f) (turned 13 0 0)).1 (here (not_good s h))
 
   pub then_file : Good s → (u : Turned) → Own f u → judge fine (asking s f) ≡ refused u
@@ -182,7 +182,7 @@ placed κ a r t p q =
     let f = a.1.1.1.0.now in
     let e = sym p.0 ∙ q in
     let rows = offering a.0 a.1.0.marks (length a.1.1.0.now) f in
-    let h = each_is _ ((exactly rows).0 e) in
+    let h = each_is (ready a.0 a.1.0.marks (length a.1.1.0.now) ∷ checks f ∷ placing a.0 a.1.0.marks f ∷ []) ((exactly rows).0 e) in
     ((good_exactly a.0).0 h.0.0, (exactly (checks f)).1 h.1.0, (match_exactly a.0 (facts_of f)).0 h.1.1.0.0)
 
 -- ---- the record tells how many numbers are marked

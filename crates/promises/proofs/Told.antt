@@ -1,8 +1,7 @@
 -- The facts of a file that is made are those of its values and entries. Assumes nothing.
 use Rattle.std.proofs.Common.{◌≡◌, refl, sym, ap, ◌∙◌, List, ℕ, ◌+◌, length}
 use Rattle.wire.specs.Wire.{Bytes, num}
-use Rattle.rules.specs.Rules.{fine, judge, says, reply}
-use Rattle.rules.specs.declared.Verdict.{Verdict}
+use Rattle.rules.specs.Rules.{fine, judge, says, Verdict}
 use Rattle.reading.specs.Counts.{calibration_of}
 use Rattle.header.specs.declared.Header.{Header}
 use Rattle.header.specs.Places.{order_of, a_of, b_of, c_of, at9, at10, header_length}
@@ -90,7 +89,7 @@ free s z = reply_fine file_shows (checks s) (in_checks s) (judge fine (checks s)
 -- what C reads the counts of an accepted file by, of the values that the readers give
 pub by_block5 : {s : List ℕ} {w : Verdict} {ws : List Verdict} {v : Header} {e : Entries} → Bytes s → Read s w ws v e → (shown_file (answer_of s)).refusal ≡ 0
     → calibration_c (shown_file (answer_of s)) ≡ calibration_of v.block5.gain v.block5.constant v.block5.bits
-unfolding answer_of reply shown_file calibration_in
+unfolding answer_of shown_file calibration_in
 by_block5 {s} {v = v} b rd z =
     let g = free s z in
     let m = says_made s b (facts_of s) (rw g) in
@@ -123,7 +122,7 @@ shown_fine f = record {
 }
 
 pub shown_accepted : (s : List ℕ) → judge fine (checks s) ≡ fine → Shown (shown_file (answer_of s)) (facts_of s)
-unfolding answer_of reply
+unfolding answer_of
 shown_accepted s g = rw g (shown_fine (facts_of s))
 
 pub shown_at : {r q : HsdFile} {f : Facts} → r ≡ q → Shown q f → Shown r f

@@ -1,15 +1,13 @@
 -- Ask 6, why a file is not a segment of a slate's frame, in the words of specs/Why: what is said of any slate and any bytes (`Reasoned`), what that means (`Agreed`,
 -- `Differed`), and what an offer then answers (`Never`, `Always`). Each theorem is of the functions' own answers: `Post` is a function's contract as its source has it.
 -- Assumes nothing.
-use Rattle.std.proofs.Common.{◌≡◌, refl, sym, ap, subst, ◌∙◌, ◌↔◌, List, ℕ, length}
-use Rattle.rules.specs.Rules.{fine, judge, paper, says, reply}
+use Rattle.std.proofs.Common.{◌≡◌, refl, sym, ap, subst, ◌∙◌, ◌↔◌, List, ℕ, length, Option, Some, None, is_none}
+use Rattle.rules.specs.Rules.{fine, judge, paper, paper_reply, says}
 use Rattle.accept.specs.Answers.{facts_of}
 use Rattle.slate.specs.declared.Slate.{Slate}
 use Rattle.slate.specs.declared.Difference.{Difference}
-use Rattle.slate.specs.declared.Compared.{Compared}
-use Rattle.slate.specs.declared.Compared.TheVariants.{Agrees, Differs}
-use Rattle.slate.specs.Parts.{comparing, is_agrees}
-use Rattle.slate.specs.Slates.{asking, paper_reason, reason_of}
+use Rattle.slate.specs.Parts.{comparing}
+use Rattle.slate.specs.Slates.{asking, reason_of}
 use Rattle.slate.proofs.Slate.why.Reads as why
 use Rattle.frame.specs.Frames.{offered}
 use Rattle.frame.proofs.offer.Reads as offer
@@ -33,32 +31,32 @@ answered : {s : Slate} {f : List ℕ} (κ : _) (a : _) (r : _) (t : _) → offer
 answered κ a r t p es ef = sym (p.0 ∙ (λ i. offered (es i) a.1.0.marks (length a.1.1.0.now) (ef i)))
 
 module _ (κ : _) (a : _) (r : _) (t : _) (p : why.Post κ a r t) where
-  pub reasons : Reasoned (λ x. paper_reason r ≡ x) a.0 a.1.0.now
-  reasons = reasoned a.0 a.1.0.now (λ x. paper_reason r ≡ x) p
+  pub reasons : Reasoned (λ x. paper_reply r ≡ x) a.0 a.1.0.now
+  reasons = reasoned a.0 a.1.0.now (λ x. paper_reply r ≡ x) p
 
-  pub agrees : paper_reason r ≡ says Agrees → Agreed a.0 a.1.0.now
+  pub agrees : paper_reply r ≡ says None → Agreed a.0 a.1.0.now
   agrees e = agreed a.0 a.1.0.now (sym p ∙ e)
 
-  pub differs : {d : Difference} → paper_reason r ≡ says (Differs d) → Differed a.0 a.1.0.now d
+  pub differs : {d : Difference} → paper_reply r ≡ says (Some d) → Differed a.0 a.1.0.now d
   differs e = differed a.0 a.1.0.now (sym p ∙ e)
 
   -- they agree: no offer answers 15
-  pub never : paper_reason r ≡ says Agrees → Never a.0 a.1.0.now
+  pub never : paper_reply r ≡ says None → Never a.0 a.1.0.now
   never e κ' o r' t' p' es ef b q z =
       let h = agrees e in
       not_other a.0 a.1.0.now h.slate h.file o.1.0.marks (length o.1.1.0.now) h.match b q (answered κ' o r' t' p' es ef ∙ z)
 
   -- they differ: every offer that gets so far answers 15
-  pub always : {d : Difference} → paper_reason r ≡ says (Differs d) → Always a.0 a.1.0.now
+  pub always : {d : Difference} → paper_reply r ≡ says (Some d) → Always a.0 a.1.0.now
   always {d} e κ' o r' t' p' es ef h =
       let w = differs e in
       sym (answered κ' o r' t' p' es ef)
-      ∙ other a.0 a.1.0.now w.slate w.file o.1.0.marks (length o.1.1.0.now) (ap is_agrees (one_differs a.0 a.1.0.now w.first))
+      ∙ other a.0 a.1.0.now w.slate w.file o.1.0.marks (length o.1.1.0.now) (ap is_none (one_differs a.0 a.1.0.now w.first))
       (none_above_lem o.1.0.marks a.0.total w.slate.parts.most_total h.above)
       (size_is a.0 h.frame)
 
   -- of a good slate and an accepted file "agrees" is said exactly when offering could not answer 15
-  pub agrees_exactly : Good a.0 → Accepted a.1.0.now → (paper_reason r ≡ says Agrees) ↔ Never a.0 a.1.0.now
+  pub agrees_exactly : Good a.0 → Accepted a.1.0.now → (paper_reply r ≡ says None) ↔ Never a.0 a.1.0.now
   agrees_exactly g ok = (never, λ h. reasons.agrees g ok ((match_exactly a.0 (facts_of a.1.0.now)).0 (never_match κ.0 a.0 a.1.0 g ok h)))
 
 -- ---- from C
@@ -75,25 +73,25 @@ module _ (κ : _) (a : _) (r : _) (t : _) (p : hsd_why.Post κ a r t) where
 
   -- where C is told of no refusal it is told what comparing says
   told_c : r.refusal ≡ 0 → reason_of (slate_from a.0) a.1.0.now ≡ says (comparing (slate_from a.0) (facts_of a.1.0.now))
-  unfolding reason_of reply
+  unfolding reason_of
   told_c z = rw (reply_fine why_shows (asking (slate_from a.0) a.1.0.now) (in_asking (slate_from a.0) a.1.0.now) (judge fine (asking (slate_from a.0) a.1.0.now)) (comparing (slate_from a.0) (facts_of a.1.0.now)) refl (ap (λ (w : HsdWhy). w.refusal) (sym p) ∙ z))
 
   -- no refusal and no part: they agree
   pub agrees_c : r.refusal ≡ 0 → r.part ≡ 0 → Agreed (slate_from a.0) a.1.0.now
   agrees_c z y = go (comparing (slate_from a.0) (facts_of a.1.0.now)) (told_c z) (subst (ShownWhy r) (told_c z) shown_so)
     where
-      go : (c : Compared) → reason_of (slate_from a.0) a.1.0.now ≡ says c → ShownWhy r (says c) → Agreed (slate_from a.0) a.1.0.now
-      go Agrees e h = agreed (slate_from a.0) a.1.0.now e
-      go (Differs d) e h = absurd (rank_some d.part (sym (ap (λ (w : HsdWhy). w.part) h) ∙ y))
+      go : (c : Option Difference) → reason_of (slate_from a.0) a.1.0.now ≡ says c → ShownWhy r (says c) → Agreed (slate_from a.0) a.1.0.now
+      go None e h = agreed (slate_from a.0) a.1.0.now e
+      go (Some d) e h = absurd (rank_some d.part (sym (ap (λ (w : HsdWhy). w.part) h) ∙ y))
 
   -- no refusal and a part: it is the first disagreement, with the values told
   pub differs_c : r.refusal ≡ 0 → (r.part ≡ 0 → ⊥) → (d : Difference) × (Differed (slate_from a.0) a.1.0.now d × (r.part ≡ rank d.part) × (r.slate ≡ d.slate) × (r.file ≡ d.file))
   differs_c z y = go (comparing (slate_from a.0) (facts_of a.1.0.now)) (told_c z) (subst (ShownWhy r) (told_c z) shown_so)
     where
-      go : (c : Compared) → reason_of (slate_from a.0) a.1.0.now ≡ says c → ShownWhy r (says c)
+      go : (c : Option Difference) → reason_of (slate_from a.0) a.1.0.now ≡ says c → ShownWhy r (says c)
           → (d : Difference) × (Differed (slate_from a.0) a.1.0.now d × (r.part ≡ rank d.part) × (r.slate ≡ d.slate) × (r.file ≡ d.file))
-      go Agrees e h = absurd (y (ap (λ (w : HsdWhy). w.part) h))
-      go (Differs d) e h = (d, (differed (slate_from a.0) a.1.0.now e, ap (λ (w : HsdWhy). w.part) h, ap (λ (w : HsdWhy). w.slate) h, ap (λ (w : HsdWhy). w.file) h))
+      go None e h = absurd (y (ap (λ (w : HsdWhy). w.part) h))
+      go (Some d) e h = (d, (differed (slate_from a.0) a.1.0.now e, ap (λ (w : HsdWhy). w.part) h, ap (λ (w : HsdWhy). w.slate) h, ap (λ (w : HsdWhy). w.file) h))
 
   pub never_c : r.refusal ≡ 0 → r.part ≡ 0 → NeverC a.0 a.1.0.now
   never_c z y κ' o r' t' p' es ef e =
@@ -104,7 +102,7 @@ module _ (κ : _) (a : _) (r : _) (t : _) (p : hsd_why.Post κ a r t) where
   unfolding shown_ruling
   always_c z y κ' o r' t' p' es ef h =
       let w = (differs_c z y).1.0 in
-      let e = answered_c κ' o r' t' p' es ef ∙ ap shown_ruling (other_c a.0 a.1.0.now w.slate w.file o.1.0.now (length o.1.1.0.now) (ap is_agrees (one_differs (slate_from a.0) a.1.0.now w.first)) h) in
+      let e = answered_c κ' o r' t' p' es ef ∙ ap shown_ruling (other_c a.0 a.1.0.now w.slate w.file o.1.0.now (length o.1.1.0.now) (ap is_none (one_differs (slate_from a.0) a.1.0.now w.first)) h) in
       (ap (λ (x : HsdAnswer). x.refusal) e, ap (λ (x : HsdAnswer). x.block) e, ap (λ (x : HsdAnswer). x.offset) e)
 
   pub agrees_exactly_c : Good (slate_from a.0) → Accepted a.1.0.now → ((r.refusal ≡ 0) × (r.part ≡ 0)) ↔ NeverC a.0 a.1.0.now

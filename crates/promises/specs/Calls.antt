@@ -1,11 +1,12 @@
 -- Calls of `accept`, of the four readers and of the writer, by the contracts as their source has them: `Post` is that of a call with
 -- lifetimes κ, arguments a and result r, where t is what stands behind the references at exit.
-use Rattle.std.specs.Prelude.{ℕ, ◌≤◌, ◌≡◌, List, [], ◌∷◌, length, take}
-use Rattle.rules.specs.declared.Verdict.{Verdict}
+use Rattle.std.specs.Prelude.{ℕ, ◌≤◌, ◌≡◌, List, [], ◌∷◌, length, take, Result}
+use Rattle.rules.specs.Rules.{Verdict}
+use Rattle.rules.specs.declared.Refusal.{Refusal}
 use Rattle.header.specs.declared.Header.{Header}
 use Rattle.header.specs.Places.{a_of, b_of, c_of}
 use Rattle.header.specs.Encode.{Entries}
-use Rattle.accept.specs.declared.Answer.{Answer}
+use Rattle.accept.specs.declared.Facts.{Facts}
 use Rattle.writer.specs.Sizes.{entries_from}
 use Rattle.accept.proofs.accept.Reads as accept
 use Rattle.reader.proofs.read.Reads as read
@@ -15,7 +16,7 @@ use Rattle.reader.proofs.read_errors.Reads as read_errors
 use Rattle.writer.proofs.write.Reads as write
 
 -- the answer x was given to the file s
-pub data Answered (s : List ℕ) : Answer → Type 0 where
+pub data Answered (s : List ℕ) : Result Facts Refusal → Type 0 where
   answered : (κ : _) (a : _) (x : _) (t : _) → accept.Post κ a x t → a.0.now ≡ s → Answered s x
 
 -- All four readers were called on the file s, over slices with room for its entries. These are the verdict on its values, the verdicts on the entries of blocks 8, 9 and 10,

@@ -2,7 +2,7 @@
 use Rattle.std.specs.Prelude.{◌≡◌, true, false, List, [], ◌∷◌, ℕ, ◌+◌, ℤ, pos, negsuc, Float, length}
 use Rattle.std.specs.Float.{fin}
 use Rattle.wire.specs.Wire.{span}
-use Rattle.rules.specs.Rules.{Turned, turned, Row, tables, Ruling, fine, refused, judge, Reply, says, refuses}
+use Rattle.rules.specs.Rules.{Turned, turned, Row, tables, Ruling, fine, refused, judge, Reply, says, refuses, paper_reply}
 use Rattle.header.specs.declared.Header.{Header}
 use Rattle.header.specs.Places.{order_of, a_of, b_of, c_of, length8, length9, length10, length_of, data_length}
 use Rattle.header.specs.Values.{block2_of}
@@ -12,7 +12,6 @@ use Rattle.accept.specs.Answers.{answer_of}
 use Rattle.writer.specs.Given.{orders, lengths8, ruled}
 use Rattle.tiling.specs.Lawful.{text}
 use Rattle.calendar.specs.Dates.{paper_day}
-use Rattle.calendar.specs.Shots.{paper_slot, paper_frame}
 use Rattle.calendar.proofs.day_of.Reads as day_of
 use Rattle.calendar.proofs.slot.Reads as slots
 use Rattle.calendar.proofs.frame_number.Reads as frame_number
@@ -64,8 +63,8 @@ Holds (unwritten8 a u) = (v : Header) (e : Entries) (n : ℕ) → length e.lines
 Holds (count g k bits n r) = (κ : _) (x : _) (y : _) (t : _) → read.Post κ x y t → x.0 ≡ record { gain = g; constant = k; bits = bits } → x.1.0 ≡ n → y ≡ r
 Holds (date y m d r) = (κ : _) (x : _) (z : _) (t : _) → day_of.Post κ x z t → x.0 ≡ y → x.1.0 ≡ m → x.1.1.0 ≡ d → paper_day z ≡ r
 Holds (name day u) = (s : List ℕ) → judge fine (tables (others s)) ≡ fine → span s (114 + 7) 8 ≡ day → answer_of s ≡ refuses u
-Holds (slot d t r) = (κ : _) (x : _) (z : _) (w : _) → slots.Post κ x z w → x.0 ≡ d → x.1.0 ≡ t → paper_slot z ≡ r
-Holds (film d₀ t₀ d t r) = (κ : _) (x : _) (z : _) (w : _) → frame_number.Post κ x z w → x.0 ≡ d₀ → x.1.0 ≡ t₀ → x.1.1.0 ≡ d → x.1.1.1.0 ≡ t → paper_frame z ≡ r
+Holds (slot d t r) = (κ : _) (x : _) (z : _) (w : _) → slots.Post κ x z w → x.0 ≡ d → x.1.0 ≡ t → paper_reply z ≡ r
+Holds (film d₀ t₀ d t r) = (κ : _) (x : _) (z : _) (w : _) → frame_number.Post κ x z w → x.0 ≡ d₀ → x.1.0 ≡ t₀ → x.1.1.0 ≡ d → x.1.1.1.0 ≡ t → paper_reply z ≡ r
 
 abbrev pub All : List Case → Type 0
 All [] = Unit

@@ -44,7 +44,6 @@ abbrev named : List ℕ → List ℕ → Bool
 named s name = good_name name (satellite_of (span s 6 16)) (number s 44 2) (number s 601 2) (span s 38 4) (get_or s 1008 0) (get_or s 1007 0)
 
 abbrev pub fields : List ℕ → List Row
-unfolding tables
 fields s =
     tables (
     (left s 1 1 0 (leb 282)

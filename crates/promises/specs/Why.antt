@@ -1,5 +1,5 @@
 -- Why a file is not a segment of a slate's frame, in document 02's words: nothing here is taken from the tests that the functions make.
-use Rattle.std.specs.Prelude.{ℕ, ◌+◌, ◌*◌, ◌-◌, ◌≤◌, ◌<◌, ◌≡◌, Bool, false, List, [], ◌∷◌, length, get_or}
+use Rattle.std.specs.Prelude.{ℕ, ◌+◌, ◌*◌, ◌-◌, ◌≤◌, ◌<◌, ◌≡◌, Bool, false, List, [], ◌∷◌, length, get_or, Option, Some, None}
 use Rattle.rules.specs.Rules.{Turned, turned, fine, refused, judge, paper, Reply, says, refuses}
 use Rattle.accept.specs.declared.Facts.{Facts}
 use Rattle.accept.specs.Checks.{checks}
@@ -8,8 +8,6 @@ use Rattle.slate.specs.declared.Slate.{Slate}
 use Rattle.slate.specs.declared.Part.{Part}
 use Rattle.slate.specs.declared.Part.TheVariants.{Satellite, Day, Timeline, Band, Area, Columns, Total, Lines, FirstLine}
 use Rattle.slate.specs.declared.Difference.{Difference}
-use Rattle.slate.specs.declared.Compared.{Compared}
-use Rattle.slate.specs.declared.Compared.TheVariants.{Agrees, Differs}
 use Rattle.slate.specs.Parts.{Sides, sides}
 use Rattle.frame.specs.Records.{marked}
 use Rattle.frame.proofs.offer.Reads as offer
@@ -43,12 +41,12 @@ abbrev pub Accepted : List ℕ → Type 0
 Accepted f = judge fine (checks f) ≡ fine
 
 -- What is said, whatever the slate and the bytes are. `Says` is how an answer is told.
-pub record Reasoned (Says : Reply Compared → Type 0) (s : Slate) (f : List ℕ) : Type 0 where
+pub record Reasoned (Says : Reply (Option Difference) → Type 0) (s : Slate) (f : List ℕ) : Type 0 where
   -- a bad slate's refusal comes first, then the file's own
   pub bad : (Good s → ⊥) → Says (refuses (turned 13 0 0))
   pub own : Good s → (u : Turned) → Own f u → Says (refuses u)
-  pub agrees : Good s → Accepted f → Match s (facts_of f) → Says (says Agrees)
-  pub differs : Good s → Accepted f → (d : Difference) → Disagreement (nine s (facts_of f)) d → Says (says (Differs d))
+  pub agrees : Good s → Accepted f → Match s (facts_of f) → Says (says None)
+  pub differs : Good s → Accepted f → (d : Difference) → Disagreement (nine s (facts_of f)) d → Says (says (Some d))
 
 -- What it means that they were said to agree, or to differ.
 pub record Agreed (s : Slate) (f : List ℕ) : Type 0 where
@@ -88,9 +86,9 @@ rank Total = 7
 rank Lines = 8
 rank FirstLine = 9
 
-abbrev pub ShownWhy : HsdWhy → Reply Compared → Type 0
-ShownWhy r (says Agrees) = r ≡ record { refusal = 0; block = 0; part = 0; offset = 0; slate = 0; file = 0 }
-ShownWhy r (says (Differs d)) = r ≡ record { refusal = 0; block = 0; part = rank d.part; offset = 0; slate = d.slate; file = d.file }
+abbrev pub ShownWhy : HsdWhy → Reply (Option Difference) → Type 0
+ShownWhy r (says None) = r ≡ record { refusal = 0; block = 0; part = 0; offset = 0; slate = 0; file = 0 }
+ShownWhy r (says (Some d)) = r ≡ record { refusal = 0; block = 0; part = rank d.part; offset = 0; slate = d.slate; file = d.file }
 ShownWhy r (refuses (turned n b p)) = r ≡ record { refusal = n; block = b; part = 0; offset = p; slate = 0; file = 0 }
 
 -- marks are 99 bytes, each 0 or 1, with none set above N
