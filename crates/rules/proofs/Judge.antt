@@ -6,7 +6,7 @@ use mathlib.Core.Logic.{◌↔◌}
 use mathlib.Core.Bool.{Bool, true, false}
 use Prim.Native.Nat.{ℕ}
 use native.Mathlib.Omega.{arith}
-use Rattle.rules.specs.Rules.{Row, test, Turned, turned, placeless, unplaced, checked, judge, First, here, later, tables, Ruling, fine, refused, Reply, says, refuses, reply}
+use Rattle.rules.specs.Rules.{Row, test, Turned, turned, placeless, unplaced, checked, judge, First, here, later, tables, Ruling, fine, refused, says, refuses, reply}
 
 pub judge_append : (v : Ruling) (xs ys : List Row) → judge v (xs ++ ys) ≡ judge (judge v xs) ys
 judge_append v [] ys = refl
@@ -76,15 +76,6 @@ first_refused (later e f) = rw e (first_refused f)
 -- the first check that fails answers
 pub first_fails : (rs : List Row) (u : Turned) → (judge fine rs ≡ refused u) ↔ First rs u
 first_fails rs u = (first_is rs u, first_refused)
-
--- a run of checks, from v to r: each test as the code makes it, and as the table has it
-pub data Judged : Ruling → List Row → Ruling → Type 0 where
-  none : {v : Ruling} → Judged v [] v
-  also : {v m r : Ruling} {ok a : Bool} {t : Turned} {rs : List Row} → m ≡ checked v ok t → ok ≡ a → Judged m rs r → Judged v (test a t ∷ rs) r
-
-pub judged : {v r : Ruling} {rs : List Row} → Judged v rs r → r ≡ judge v rs
-judged none = refl
-judged (also e f j) = judged j ∙ rw (e, f)
 
 -- a run of tables, from v to r
 pub data Tried : Ruling → List (List Row) → Ruling → Type 0 where

@@ -11,7 +11,7 @@ use accept::Facts;
 use rules::{Refusal, Why, require};
 use wire::Word;
 
-// A line and a column of the frame, both counted from 1; neither stands for the other.
+// A line and a column of the frame, both counted from 1: two types, as the requirements have them, so that neither stands for the other.
 #[derive(Clone, Copy)]
 pub struct Line(pub u16);
 
@@ -76,7 +76,7 @@ impl Slate {
 
     pub const MOST_LINES: u32 = 22000;
 
-    // The slate of these parts, or refusal 13. What stands beyond the Nth height is ignored. The parts are arguments one by one, as the
+    // The slate of these parts, or refusal 13. They come one by one: a struct of them would be a slate that nothing has checked. What stands beyond the Nth height is ignored. The parts are arguments one by one, as the
     // paper has them: `parts_of` in its clause takes them so.
     #[tactic(auto, unfolding(rules::specs::Rules::after))]
     pub fn new(

@@ -1,7 +1,6 @@
 -- Eight bytes as std's words have them.
 use Rattle.std.proofs.Common.{◌≡◌, ℕ, List, [], ◌∷◌, length, reverse, w64, arith}
 use Rattle.std.specs.Int.{from_le_bytes, from_be_bytes}
-use lib.Dec.{eqb}
 use borrow.Author.Tests.{eq-eqb, ne_eqb}
 use Rattle.wire.specs.Wire.{num, low}
 

@@ -28,13 +28,6 @@ unfolding eqs
 eqs_refl [] = refl
 eqs_refl (x ∷ xs) = rw (eq-eqb x x refl, eqs_refl xs)
 
-pub eqs_ne : (xs ys : List ℕ) → (xs ≡ ys → ⊥) → eqs xs ys ≡ false
-eqs_ne xs ys h = go (eqs xs ys) refl
-  where
-    go : (b : Bool) → eqs xs ys ≡ b → eqs xs ys ≡ false
-    go true e = absurd (h (eqs_eq xs ys e))
-    go false e = e
-
 pub eqs_same : (xs ys : List ℕ) → xs ≡ ys → eqs xs ys ≡ true
 eqs_same xs ys e = rw e (eqs_refl ys)
 

@@ -4,6 +4,5 @@ pub mod Numbers
 pub mod Stores
 pub mod Rows
 pub mod Pieces
-pub mod Here
 pub mod Equal
 pub mod Eights

@@ -3,12 +3,12 @@
 use mathlib.Core.Path.{◌≡◌, refl, sym, ◌∙◌}
 use mathlib.Core.Logic.{⊎_elim}
 use mathlib.Core.List.{List, [], ◌∷◌, ◌++◌, append_assoc}
-use Prim.Native.Nat.{ℕ, zero, suc, ◌+◌, ◌*◌, ◌≤◌, ◌<◌}
+use Prim.Native.Nat.{ℕ, zero, suc, ◌+◌, ◌*◌, ◌<◌}
 use native.Mathlib.Nat.{mul-suc, mul-zero, le_of_suc-le-suc, eq-or-lt_of_le}
 use native.Mathlib.Numerals.{add-one}
 use native.Mathlib.Omega.{arith}
-use lib.ListN.{length, get_or, drop, set, length-append, get_or-append}
-use lib.Seq.{get_or_at, ext_get_or, set_at, drop-cons}
+use lib.ListN.{length, get_or, length-append, get_or-append}
+use lib.Seq.{get_or_at, ext_get_or}
 use Rattle.wire.specs.Wire.{span, rows, tab, Stored}
 use Rattle.wire.proofs.Spans.{span_add, span_mid}
 use Rattle.wire.proofs.Stores.{store_append}
@@ -17,11 +17,6 @@ pub length_tab : (f : ℕ → ℕ) (n : ℕ) → length (tab f n) ≡ n
 unfolding tab
 length_tab f zero = refl
 length_tab f (suc n) = rw (length-append, length_tab f n, add-one)
-
--- a turn of a loop that fills from the front
-pub tab_turn : (f : ℕ → ℕ) (d : List ℕ) {dst : List ℕ} {i x : ℕ} → dst ≡ tab f i ++ drop i d → x ≡ f i → i < length d → set dst i x ≡ tab f (i + 1) ++ drop (i + 1) d
-unfolding tab
-tab_turn f d {dst} {i} {x} e g h = rw (e, g, add-one, drop-cons d i 0, set_at (tab f i) _ _ _ _ (length_tab f i), append_assoc)
 
 pub get_or_tab : (f : ℕ → ℕ) (n i : ℕ) → i < n → get_or (tab f n) i 0 ≡ f i
 unfolding tab

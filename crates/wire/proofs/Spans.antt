@@ -1,10 +1,9 @@
 -- Laws of spans, over every place and width.
 -- Assumes nothing.
 use mathlib.Core.Path.{◌≡◌, refl, ap, ◌∙◌}
-use mathlib.Core.List.{List, [], ◌∷◌, ◌++◌, append_assoc}
+use mathlib.Core.List.{List, [], ◌∷◌, ◌++◌}
 use Prim.Native.Nat.{ℕ, zero, suc, ◌+◌, ◌<◌, ◌≤◌}
 use native.Mathlib.Nat.{add-zero, zero-add, suc-add}
-use native.Mathlib.Numerals.{add-one}
 use native.Mathlib.Omega.{arith}
 use lib.ListN.{length, get_or, take, drop}
 use lib.Seq.{get_or-drop}
@@ -23,14 +22,6 @@ span_add s at zero n = rw (zero-add, add-zero)
 span_add s at (suc m) n =
     let e : at + suc m ≡ at + 1 + m = omega arith in
     rw (suc-add, e, ← span_add s (at + 1) m n)
-
--- a span one byte longer
-pub span_snoc : (s : List ℕ) (at w : ℕ) → span s at (suc w) ≡ span s at w ++ (get_or s (at + w) 0 ∷ [])
-unfolding span
-span_snoc s at zero = rw add-zero
-span_snoc s at (suc w) =
-    let e : at + suc w ≡ at + 1 + w = omega arith in
-    rw (e, ← span_snoc s (at + 1) w)
 
 -- a span of what is left from a place on
 pub span_drop : (s : List ℕ) (at i w : ℕ) → span (drop at s) i w ≡ span s (at + i) w

@@ -1,17 +1,16 @@
 -- Laws of stores: what is past the end is left out, a run of stores is one, and what was stored reads back.
 -- Assumes nothing.
-use mathlib.Core.Path.{◌≡◌, refl, sym, ap, ◌∙◌, subst⁻¹}
+use mathlib.Core.Path.{◌≡◌, refl, sym, ◌∙◌, subst⁻¹}
 use mathlib.Core.List.{List, [], ◌∷◌, ◌++◌, append_assoc}
 use Prim.Native.Nat.{ℕ, zero, suc, ◌+◌, ◌-◌, ◌^◌, ◌≤◌, ◌<◌, min}
 use native.Mathlib.Nat.{add-zero, zero-add}
-use native.Mathlib.Numerals.{add-one}
 use native.Mathlib.Omega.{arith}
-use lib.ListN.{length, get_or, take, drop, set, length-append, length-set}
-use lib.Seq.{sets, set_out, length-take-le, sets-eq, length-sets}
+use lib.ListN.{length, take, drop, set, length-append, length-set}
+use lib.Seq.{sets, set_out, length-take-le, sets-eq}
 use Rattle.std.proofs.lemmas.Grind.{common_steps}
 use Rattle.wire.specs.Wire.{span, num, digits, store, join, Stored}
 use Rattle.wire.proofs.Spans.{span_mid}
-use Rattle.wire.proofs.Numbers.{num_digits, length_digits}
+use Rattle.wire.proofs.Numbers.{num_digits}
 
 sets_append : (l : List ℕ) (i : ℕ) (xs ys : List ℕ) → sets l i (xs ++ ys) ≡ sets (sets l i xs) (i + length xs) ys
 sets_append l i [] ys = rw add-zero
@@ -73,10 +72,6 @@ next_at {m = m} {out = out} {ps = ps} {n = n} to e s r = next s (subst⁻¹ (λ 
 -- it is one store of the pieces joined
 pub puts : {l out : List ℕ} {ps : List (List ℕ)} {at n : ℕ} (w : ℕ) → n ≡ w → Puts l at n ps out → Stored w l at (join ps) out
 puts w e r = record { long = puts_long r ∙ e; is = puts_is r }
-
-pub stored_length : {w : ℕ} {l p out : List ℕ} {at : ℕ} → Stored w l at p out → length out ≡ length l
-unfolding store
-stored_length {l = l} {p = p} {at = at} s = ap length s.is ∙ length-sets l at p
 
 -- what was stored at the front, and then the rest as it was
 pub front : {w : ℕ} {l p out : List ℕ} → Stored w l 0 p out → w ≤ length l → out ≡ p ++ drop w l

@@ -4,7 +4,8 @@
 ghost use Rattle.std.specs.Prelude.{◌≡◌, ℕ, [], ◌∷◌, ◌+◌, ◌-◌, ◌<◌, ◌^◌, length, get_or, take, drop};
 ghost use Rattle.wire.specs.Wire.{span, num, digits, eqs, store, Stored};
 
-// An unsigned number of N bytes. The order is a file's byte: 0 is the lowest byte first, any other the highest.
+// An unsigned number of N bytes. The order is a file's own byte, 0 the lowest byte first and any other the highest, and no enum: every reader, and the
+// writer's refusal of an order above 1, answer for all 256. The three impls differ in the type alone: rt ci takes none that a macro of the repository wrote.
 pub trait Word<const N: usize>: Copy {
     // The number that it is.
     ghost number: { Self → ℕ };
