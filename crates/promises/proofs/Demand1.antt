@@ -3,7 +3,7 @@
 -- That every input has one answer is the contracts' having no `requires`, and OneAnswer.
 -- Assumes nothing.
 use Rattle.std.proofs.Common.{◌≡◌, refl, sym, ap, ◌∙◌, Bool, true, false, cond, List, [], ◌∷◌, ℕ, ◌+◌, ◌*◌, ◌≤◌, arith, length, get_or, pos}
-use Rattle.rules.specs.Rules.{Turned, turned, Row, fine, says, refused, refuses, judge, tables, unplaced, paper, paper_reply}
+use Rattle.rules.specs.Rules.{Turned, turned, Row, Ruling, after, fine, says, refused, refuses, judge, tables, unplaced, paper, paper_reply}
 use Rattle.calendar.specs.Dates.{real, day_at, paper_day, day_of}
 use Rattle.calendar.specs.Shots.{shot, slot_of, shots, film_frame_of}
 use Rattle.format.specs.Texts.{pair}
@@ -112,31 +112,31 @@ pub of_accept : (κ : _) (a : _) (r : _) (t : _) → accept.Post κ a r t → (u
 unfolding answer_of
 of_accept κ a r t p u e = refuses_in (checks a.0.now) (in_checks a.0.now) (facts_of a.0.now) u (sym p ∙ e)
 
--- the checks alone: what they refuse is of the table
-pub of_check_file : (κ : _) (a : _) (r : _) (t : _) → check_file.Post κ a r t → Onward fine (paper r)
+-- checks on top of what was checked before, whose ruling is v
+pub of_check_file : (κ : _) (a : _) (r : _) (t : _) → check_file.Post κ a r t → (v : Ruling) → Onward v (after v v (paper r))
 of_check_file κ a r t p = onward (checks a.0.now) (in_checks a.0.now) p
 
-pub of_check_fields1 : (κ : _) (a : _) (r : _) (t : _) → check_fields1.Post κ a r t → Onward fine (paper r)
+pub of_check_fields1 : (κ : _) (a : _) (r : _) (t : _) → check_fields1.Post κ a r t → (v : Ruling) → Onward v (after v v (paper r))
 unfolding fields1 in_table allowed
 of_check_fields1 κ a r t p = onward (fields1 a.0) refl p
 
-pub of_check_fields2 : (κ : _) (a : _) (r : _) (t : _) → check_fields2.Post κ a r t → Onward fine (paper r)
+pub of_check_fields2 : (κ : _) (a : _) (r : _) (t : _) → check_fields2.Post κ a r t → (v : Ruling) → Onward v (after v v (paper r))
 unfolding fields2 in_table allowed
 of_check_fields2 κ a r t p = onward (fields2 a.0) refl p
 
-pub of_check_fields5 : (κ : _) (a : _) (r : _) (t : _) → check_fields5.Post κ a r t → Onward fine (paper r)
+pub of_check_fields5 : (κ : _) (a : _) (r : _) (t : _) → check_fields5.Post κ a r t → (v : Ruling) → Onward v (after v v (paper r))
 unfolding fields5 in_table allowed
 of_check_fields5 κ a r t p = onward (fields5 a.0) refl p
 
-pub of_check_fields7 : (κ : _) (a : _) (r : _) (t : _) → check_fields7.Post κ a r t → Onward fine (paper r)
+pub of_check_fields7 : (κ : _) (a : _) (r : _) (t : _) → check_fields7.Post κ a r t → (v : Ruling) → Onward v (after v v (paper r))
 unfolding fields7 in_table allowed
 of_check_fields7 κ a r t p = onward (fields7 a.0 a.1.0) refl p
 
-pub of_check_name : (κ : _) (a : _) (r : _) (t : _) → check_name.Post κ a r t → Onward fine (paper r)
+pub of_check_name : (κ : _) (a : _) (r : _) (t : _) → check_name.Post κ a r t → (v : Ruling) → Onward v (after v v (paper r))
 unfolding names in_table allowed
 of_check_name κ a r t p = onward (names a.0 a.1.0 a.1.1.0) refl p
 
-pub of_check_slate : (κ : _) (a : _) (r : _) (t : _) → check_slate.Post κ a r t → Onward fine (paper r)
+pub of_check_slate : (κ : _) (a : _) (r : _) (t : _) → check_slate.Post κ a r t → (v : Ruling) → Onward v (after v v (paper r))
 unfolding slated in_table allowed
 of_check_slate κ a r t p = onward (slated a.0) refl p
 
@@ -221,7 +221,7 @@ module _ (κ : _) (a : _) (r : _) (t : _) (p : line_of.Post κ a r t) where
 
 -- ---- reels
 
-pub of_check_reel : (κ : _) (a : _) (r : _) (t : _) → check_reel.Post κ a r t → Onward fine (paper r)
+pub of_check_reel : (κ : _) (a : _) (r : _) (t : _) → check_reel.Post κ a r t → (v : Ruling) → Onward v (after v v (paper r))
 of_check_reel κ a r t p = onward (reels.opening a.0.now) (in_reel a.0.now) p
 
 pub of_open_reel : (κ : _) (a : _) (r : _) (t : _) → open_reel.Post κ a r t → (u : Turned) → paper_reply r ≡ refuses u → allowed u ≡ true

@@ -59,11 +59,16 @@ pub left : {A : Type 0} (r : Ruling) (t : Turned) (old new : A) → r ≡ refuse
 unfolding after
 left r t old new e = rw e
 
--- checks on top of what was checked before
-pub onward : (rs : List Row) → in_table rs ≡ true → {v r : Ruling} → r ≡ judge v rs → Onward v r
-onward rs h {v} {r} e = record {
-  kept = λ u q. e ∙ ap (λ (w : Ruling). judge w rs) q ∙ judge_refused u rs;
-  new = λ q u f. refused_in rs h u (sym (ap (λ (w : Ruling). judge w rs) q) ∙ sym e ∙ f);
+-- checks on top of what was checked before, whose ruling is v: `?` hands on what was refused, and else the checks answer
+pub onward : (rs : List Row) → in_table rs ≡ true → {r : Ruling} → r ≡ judge fine rs → (v : Ruling) → Onward v (after v v r)
+unfolding after
+onward rs h e fine = record {
+  kept = λ u q. absurd (let z : ◌≡◌ {A = ℕ} 0 1 = cc in omega arith);
+  new = λ q u f. refused_in rs h u (sym e ∙ f);
+}
+onward rs h e (refused t) = record {
+  kept = λ u q. q;
+  new = λ q u f. absurd (let z : ◌≡◌ {A = ℕ} 0 1 = cc in omega arith);
 }
 
 -- ---- in C's numbers
