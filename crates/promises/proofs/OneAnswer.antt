@@ -13,6 +13,10 @@ use Rattle.wire.proofs.piece.Reads as piece
 use Rattle.wire.proofs.bytes_at.Reads as bytes_at
 use Rattle.wire.proofs.number_at.Reads as number_at
 use Rattle.wire.proofs.put_bytes.Reads as put_bytes
+use denote.Struct.Field.{u16-field, u32-field, u64-field}
+use Rattle.wire.specs.contracts.U16Word2.TheImpl as u16s
+use Rattle.wire.specs.contracts.U32Word4.TheImpl as u32s
+use Rattle.wire.specs.contracts.U64Word8.TheImpl as u64s
 use Rattle.wire.proofs.put_number.Reads as put_number
 use Rattle.wire.proofs.U16Word2.to_bytes.Reads as two_bytes
 use Rattle.wire.proofs.U32Word4.to_bytes.Reads as four_bytes
@@ -97,6 +101,20 @@ use Rattle.reel.proofs.trailer_length.Reads as trailer_length
 use Rattle.reel.proofs.write.Reads as write_reel
 use Rattle.reel.proofs.seal.Reads as seal
 use Rattle.plugin.proofs.HsdAnswerFromResultUnitRefusal.from.Reads as answer_of
+use Rattle.format.proofs.decimal.Reads as decimal
+use Rattle.plugin.proofs.HsdFileFromResultFactsRefusal.from.Reads as file_from
+use Rattle.plugin.proofs.HsdReadingFromReading.from.Reads as reading_from
+use Rattle.plugin.proofs.HsdQualityFromMarks.from.Reads as quality_from
+use Rattle.plugin.proofs.HsdFrameNumberFromResultI64Refusal.from.Reads as frame_number_from
+use Rattle.plugin_frames.proofs.HsdWhyFromResultOptionDifferenceRefusal.from.Reads as why_from
+use Rattle.plugin_night.proofs.RunFromHsdRun.from.Reads as run_from_c
+use Rattle.plugin_night.proofs.HsdRunFromRun.from.Reads as run_from
+use Rattle.plugin_night.proofs.HsdNightFromAdded.from.Reads as night_from
+use Rattle.plugin_reels.proofs.HsdPartFromPlace.from.Reads as part_from
+use Rattle.plugin_reels.proofs.HsdReelFromResultU16Refusal.from.Reads as reel_from
+use Rattle.wire.proofs.U16Word2.from_bytes.Reads as from_two_bytes
+use Rattle.wire.proofs.U32Word4.from_bytes.Reads as from_four_bytes
+use Rattle.wire.proofs.U64Word8.from_bytes.Reads as from_eight_bytes
 use Rattle.plugin.proofs.hsd_accept.Reads as hsd_accept
 use Rattle.plugin.proofs.hsd_read_count.Reads as hsd_read_count
 use Rattle.plugin.proofs.hsd_reading.Reads as hsd_reading
@@ -154,9 +172,15 @@ bytes_at_one n d κ a x y s t p q = p ∙ sym q
 pub number_at_one : (n L A d C word D e F : _) → One (λ κ x s. word.number x) (number_at.Post n L A d C word D e F)
 number_at_one n L A d C word D e F κ a x y s t p q = p ∙ sym q
 
-pub value_at_one : (n L A d C word D e F κ a x y s t : _) → number_at.Post n L A d C word D e F κ a x s → number_at.Post n L A d C word D e F κ a y t
-    → ((u v : _) → word.number u ≡ word.number v → u ≡ v) → x ≡ y
-value_at_one n L A d C word D e F κ a x y s t p q told = told x y (p ∙ sym q)
+-- of the three widths
+pub u16_at_one : (A d C D e F κ a x y s t : _) → number_at.Post 2 u16-field.row A d C u16s.ghosts D e F κ a x s → number_at.Post 2 u16-field.row A d C u16s.ghosts D e F κ a y t → x ≡ y
+u16_at_one A d C D e F κ a x y s t p q = p ∙ sym q
+
+pub u32_at_one : (A d C D e F κ a x y s t : _) → number_at.Post 4 u32-field.row A d C u32s.ghosts D e F κ a x s → number_at.Post 4 u32-field.row A d C u32s.ghosts D e F κ a y t → x ≡ y
+u32_at_one A d C D e F κ a x y s t p q = p ∙ sym q
+
+pub u64_at_one : (A d C D e F κ a x y s t : _) → number_at.Post 8 u64-field.row A d C u64s.ghosts D e F κ a x s → number_at.Post 8 u64-field.row A d C u64s.ghosts D e F κ a y t → x ≡ y
+u64_at_one A d C D e F κ a x y s t p q = p ∙ sym q
 
 pub put_bytes_one : (n d : _) → One (λ κ x s. s.0.now) (put_bytes.Post n d)
 put_bytes_one n d κ a x y s t p q = p.is ∙ sym q.is
@@ -557,3 +581,47 @@ paper_plan_one κ a x y s t p q = p ∙ sym q
 
 pub make_sample_one : One (λ κ x s. x) make_sample.Post × One (λ κ x s. s.0.now) make_sample.Post
 make_sample_one = (λ κ a x y s t p q. p.0 ∙ sym q.0, λ κ a x y s t p q. p.1 ∙ sym q.1)
+
+-- ---- conversions
+
+pub decimal_one : (n d : _) → One (λ κ x s. x) (decimal.Post n d)
+decimal_one n d κ a x y s t p q = p ∙ sym q
+
+pub file_from_one : One (λ κ x s. x) file_from.Post
+file_from_one κ a x y s t p q = p ∙ sym q
+
+pub reading_from_one : One (λ κ x s. x) reading_from.Post
+reading_from_one κ a x y s t p q = p ∙ sym q
+
+pub quality_from_one : One (λ κ x s. x) quality_from.Post
+quality_from_one κ a x y s t p q = p ∙ sym q
+
+pub frame_number_from_one : One (λ κ x s. x) frame_number_from.Post
+frame_number_from_one κ a x y s t p q = p ∙ sym q
+
+pub why_from_one : One (λ κ x s. x) why_from.Post
+why_from_one κ a x y s t p q = p ∙ sym q
+
+pub run_from_c_one : One (λ κ x s. x) run_from_c.Post
+run_from_c_one κ a x y s t p q = p ∙ sym q
+
+pub run_from_one : One (λ κ x s. x) run_from.Post
+run_from_one κ a x y s t p q = p ∙ sym q
+
+pub night_from_one : One (λ κ x s. x) night_from.Post
+night_from_one κ a x y s t p q = p ∙ sym q
+
+pub part_from_one : One (λ κ x s. x) part_from.Post
+part_from_one κ a x y s t p q = p ∙ sym q
+
+pub reel_from_one : One (λ κ x s. x) reel_from.Post
+reel_from_one κ a x y s t p q = p ∙ sym q
+
+pub from_two_bytes_one : One (λ κ x s. x) from_two_bytes.Post
+from_two_bytes_one κ a x y s t p q = p ∙ sym q
+
+pub from_four_bytes_one : One (λ κ x s. x) from_four_bytes.Post
+from_four_bytes_one κ a x y s t p q = p ∙ sym q
+
+pub from_eight_bytes_one : One (λ κ x s. x) from_eight_bytes.Post
+from_eight_bytes_one κ a x y s t p q = p ∙ sym q
