@@ -13,7 +13,7 @@ use rules::{Refusal, Why, require};
 #[derive(Clone, Copy, Debug, PartialEq, Eq)]
 pub struct Facts {
     pub order: u8,
-    // 8 or 9
+    // 8 or 9, and 0 for any other text: facts are told of every byte string
     pub satellite: u8,
     pub day: u32,
     pub timeline: u16,
@@ -266,7 +266,7 @@ pub fn check_file(s: &[u8]) -> Result<(), Refusal>
     check_whole(s, order, front, counts)
 }
 
-// Judges a file: the same, by the name that callers know.
+// Judges a file: the same, and both are promised, each by theorems of its own (OneAnswer, Demand1).
 pub fn verdict(s: &[u8]) -> Result<(), Refusal>
     ensures { paper result ≡ judge fine (checks s.now) }
 {

@@ -6,7 +6,7 @@ ghost use Rattle.header.specs.Encode.{bytes1, bytes2, carrying, bytes5, bytes7, 
 
 use header::{Block1, Block2, Block5, Block7, Header};
 
-// The blocks, each stored piece by piece. header and counts: their lengths.
+// The blocks, each stored piece by piece. front and counts: the lengths of the header and of the counts.
 fn write1(out: &mut [u8], v: Block1, front: u32, counts: u32)
     ensures { Stored 282 out.old 0 (bytes1 v front counts) out.new }
 {

@@ -50,7 +50,7 @@ pub(crate) fn run_places(rt: &impl Print) -> io::Result<()> {
     Ok(())
 }
 
-// The number of two, four or eight bytes.
+// The number of two, four or eight bytes: the rows of cases have the width as a number, and show it.
 fn number_at(s: &[u8], width: u8, order: u8, at: usize) -> u64 {
     match width {
         2 => u64::from(wire::number_at::<2, u16>(s, at, order)),

@@ -40,7 +40,7 @@ fn show_what(rt: &impl Print, width: u8, x: u64, order: u8) -> io::Result<()> {
     }
 }
 
-// Stores the lowest bytes of a number, one, two, four or eight of them.
+// Stores the lowest bytes of a number, one, two, four or eight of them: the rows of cases have the width as a number, and show it.
 fn store(out: &mut [u8], width: u8, x: u64, order: u8, at: usize) {
     match width {
         1 => wire::put_byte(out, at, (x % 256) as u8),

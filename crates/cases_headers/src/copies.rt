@@ -33,6 +33,7 @@ static CASES: [(u8, u16, u16, u16); 16] = [
 ];
 
 // Whether every byte is still the one that outputs are filled with.
+// A line that cases_writer has, too: no crate below both would be its place.
 fn is_blank(out: &[u8]) -> bool
     ensures { IsTrue result ↔ All (λ byte. byte ≡ BLANK) out.now }
 {

@@ -5,7 +5,7 @@ use crate::values;
 use rules::Refusal;
 use std::array;
 
-// The first n numbers of a list.
+// The first n numbers of a list. A line that cases_writer has, too: no crate below both would be its place.
 pub fn first<T>(list: &[T], n: u16) -> &[T]
     ensures { result.now ≡ take n list.now }
 {

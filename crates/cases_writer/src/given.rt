@@ -33,7 +33,7 @@ pub struct Given {
     room: usize,
 }
 
-// The first n numbers of a list.
+// The first n numbers of a list. A line that cases_headers has, too: no crate below both would be its place.
 fn first<T>(list: &[T], n: usize) -> &[T]
     ensures { result.now ≡ take n list.now }
 {

@@ -8,6 +8,7 @@ use std::io;
 // The byte that every output is filled with before a case: it shows what was kept.
 const BLANK: u8 = 0xaa;
 
+// A line that cases_headers has, too: no crate below both would be its place.
 fn is_blank(out: &[u8]) -> bool
     ensures { IsTrue result ↔ All (λ byte. byte ≡ BLANK) out.now }
 {

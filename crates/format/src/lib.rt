@@ -115,7 +115,7 @@ pub fn good_band(band: u16) -> bool
     (1..=16).contains(&band)
 }
 
-// The row of a band; zeros for what is no band.
+// The row of a band; zeros for what is no band, as `band_of` of specs/ has it.
 #[tactic(auto, unfolding(crate::specs::Bands::band_of))]
 pub fn band_of(band: u16) -> Band
     ensures { result ≡ band_of band }

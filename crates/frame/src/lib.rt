@@ -13,7 +13,7 @@ use rules::{Refusal, Why, require};
 use slate::{Column, Line, Slate};
 use wire::Word;
 
-// The numbers 1 to 99 that are in; number k stands at k - 1. There is no heap, and so there is room for all.
+// The numbers 1 to 99 that are in; number k stands at k - 1. An array, since a record goes by value and there is no heap. There is no heap, and so there is room for all.
 #[derive(Clone, Copy)]
 pub struct Record {
     pub marks: [bool; 99],
@@ -209,7 +209,7 @@ fn line_good(slate: Slate, rec: Record, size: usize, line: Line) -> bool
     slate.has_line(line) && none_above(rec, slate.total()) && size == slate.frame_size()
 }
 
-// That part of the frame if its segment is in, or else the first columns of the leader; empty if it is refused.
+// That part of the frame if its segment is in, or else the first columns of the leader; empty if it is refused, as the requirements have it.
 #[tactic(auto, using(crate::proofs::Asking::asking), unfolding(crate::specs::Lines::line_of))]
 pub fn line_of<'a>(
     slate: Slate,

@@ -5,9 +5,10 @@ ghost use Rattle.wire.specs.Wire.{span};
 ghost use Rattle.header.specs.Places.{a_of, b_of, c_of, at9, at10, at11, header_length, data_length};
 ghost use Rattle.header.specs.Values.{block1_of, block2_of, block5_of, block7_of, block8_of, header_of};
 
-// Basic information.
+// Basic information. Here and below runs of bytes are arrays of their length: the library has no heap.
 #[derive(Clone, Copy)]
 pub struct Block1 {
+    // the file's own byte, above 1 too: the writer refuses that
     pub order: u8,
     pub satellite: [u8; 16],
     pub centre: [u8; 16],

@@ -5,8 +5,8 @@ ghost use Rattle.std.specs.Io.{ReadsAtMost};
 use std::io;
 use std::io::Read;
 
-// Reads until a buffer is full or the input ends, and answers how many bytes that put at the buffer's start. The loop is by hand: `read_to_end`
-// reads into the heap, and what `read_exact` reads before an early end it does not tell.
+// Reads until a buffer is full or the input ends, and answers how many bytes that put at the buffer's start. The loop is by hand: the listing lives
+// in 64 KiB of its own, where `read_to_end` reads into the heap, and what `read_exact` reads before an early end it does not tell.
 fn read_full(input: &mut impl Read, buf: &mut [u8]) -> io::Result<usize>
     ensures { ReadsAtMost result buf.new }
 {

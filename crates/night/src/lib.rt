@@ -13,6 +13,7 @@ use totals::Totals;
 pub struct Run {
     pub totals: Totals,
     pub accepted: u32,
+    // an array: a run goes by value, and there is no heap
     pub refused: [u32; 64],
 }
 

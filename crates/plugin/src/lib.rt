@@ -131,6 +131,7 @@ pub struct HsdReading {
     pub kind: u8,
 }
 
+// The kinds by the numbers that hsd.h has for them.
 impl From<Reading> for HsdReading {
     ghost use Rattle.plugin.specs.Plugin.{shown_reading};
 
@@ -205,6 +206,7 @@ impl From<Marks> for HsdQuality {
     }
 }
 
+// A function of its own: with eight casts in one goal the search gave up.
 fn shown_mark(mark: Mark) -> u8
     ensures { result ≡ shown_mark mark }
 {

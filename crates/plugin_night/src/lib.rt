@@ -18,6 +18,7 @@ pub struct HsdRun {
     pub over: u64,
     pub uncalibrated: u64,
     pub accepted: u32,
+    // as hsd.h has it
     pub refused: [u32; 64],
 }
 

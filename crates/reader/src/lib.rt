@@ -64,7 +64,7 @@ fn check_rooms3(n: usize, x: usize, y: usize, z: usize) -> Result<(), Refusal>
     rules::require(n <= z, Why::Room, 0, 0)
 }
 
-// Block 8's entries: their lines, column shifts and line shifts.
+// Block 8's entries: their lines, column shifts and line shifts. The slices are lent one by one, here and below: the clause says what each holds, on a refusal too.
 #[tactic(auto, using(crate::proofs::Filled::reading), unfolding(crate::specs::Reads::filled, rules::specs::Rules::after, header::specs::Entries::entries_of))]
 pub fn read_shifts(
     file: &[u8],

@@ -118,7 +118,7 @@ fn entry_at(s: &[u8], k: u16) -> usize
     trailer_at(s) as usize + 8 * usize::from(k).saturating_sub(1)
 }
 
-// Where the file of a number stands, from 1 on: what its entry says, if both lie in the reel, and else zeros.
+// Where the file of a number stands, from 1 on: what its entry says, if both lie in the reel, and else zeros, as `place_of` of specs/ and C have it.
 #[tactic(auto, using(crate::proofs::Ends::length_ending), unfolding(crate::specs::Reels::place_of, crate::specs::Reels::lies))]
 pub fn place_of(s: &[u8], k: u16) -> Place
     ensures { result ≡ place_of s.now k }
@@ -147,7 +147,7 @@ pub fn file_of(s: &[u8], k: u16) -> &[u8]
 
 // ---- writing
 
-// How long the trailer of so many files is, or 0 where no reel has so many.
+// How long the trailer of so many files is, or 0 where no reel has so many, as `trailer_length` of specs/ and C have it.
 #[tactic(auto, using(crate::proofs::Ends::length_ending), unfolding(crate::specs::Reels::trailer_length))]
 pub fn trailer_length(n: usize) -> usize
     ensures { result ≡ trailer_length n }
@@ -244,7 +244,7 @@ fn put_trailer(out: &mut [u8], at: usize, files: &[u8], lengths: &[u32])
     put_ending(out, at + 8 * n, n as u16, files.len() as u32);
 }
 
-// Writes the reel of files that stand end to end, or says why not and leaves every byte as it was.
+// Writes the reel of files that stand end to end, with a slice of their lengths as C lends them, or says why not and leaves every byte as it was.
 #[tactic(auto, using(crate::proofs::Writing::outcomes))]
 pub fn write(files: &[u8], lengths: &[u32], out: &mut [u8]) -> Result<(), Refusal>
     ensures result_value { paper result ≡ wrote files.now lengths.now (reel_of (listed files.now lengths.now)) out.old }

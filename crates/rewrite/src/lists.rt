@@ -19,7 +19,7 @@ pub(crate) struct Lists {
     pub(crate) pixels: [u16; LONG],
 }
 
-// A column of numbers as an image states them, the first at a place and each a stride after the one before.
+// A column of numbers as an image states them, the first at a place and each a stride after the one before. The reader's, which asks bounds, is private there.
 fn state<const N: usize, W: Word<N>>(
     numbers: &mut [W],
     s: &[u8],
@@ -34,7 +34,7 @@ fn state<const N: usize, W: Word<N>>(
     }
 }
 
-// The first n places of a list, or all where there are fewer.
+// The first n places of a list, or all where there are fewer. Of a list that is lent to write.
 fn first<T>(list: &mut [T; LONG], n: usize) -> &mut [T] {
     &mut list[..n.min(LONG)]
 }

@@ -76,8 +76,8 @@ impl Slate {
 
     pub const MOST_LINES: u32 = 22000;
 
-    // The slate of these parts, or refusal 13. They come one by one: a struct of them would be a slate that nothing has checked. What stands beyond the Nth height is ignored. The parts are arguments one by one, as the
-    // paper has them: `parts_of` in its clause takes them so.
+    // The slate of these parts, or refusal 13. What stands beyond the Nth height is ignored. The parts are arguments one by one, as
+    // `parts_of` in the clause takes them.
     #[tactic(auto, unfolding(rules::specs::Rules::after))]
     pub fn new(
         satellite: u8,
@@ -131,7 +131,7 @@ impl Slate {
         }
     }
 
-    // Every function that takes a slate makes this check again.
+    // Every function that takes a slate makes this check again: each is promised of every slate, a blank one too.
     #[tactic(auto, unfolding(crate::specs::Slates::slated))]
     pub fn check(self) -> Result<(), Refusal>
         ensures { paper result ≡ judge fine (slated self) }
@@ -199,6 +199,7 @@ impl Slate {
         sum
     }
 
+    // A field each: no form of both is shorter.
     pub fn columns(self) -> u16
         ensures { result ≡ self.columns }
     {
@@ -247,7 +248,7 @@ impl Slate {
         self.is_good() && (1..=self.lines_to(self.total)).contains(&u32::from(line.0))
     }
 
-    // The number of the segment that covers a line; 0 where there is none.
+    // The number of the segment that covers a line; 0 where there is none, as `cover_or_0` of specs/ has it.
     #[tactic(auto, using(crate::proofs::Cuts::covering), unfolding(crate::specs::Cut::height_of))]
     pub fn cover_of(self, line: Line) -> u8
         ensures { result ≡ cover_or_0 self line.0 }
@@ -338,7 +339,7 @@ fn same(part: Part, slate: u64, file: u64) -> Result<(), Difference>
 fn product(a: u32, b: u16) -> usize
     ensures { (result ≡ a * b) × (result ≤ 281470681677825) }
 {
-    a as usize * b as usize
+    a as usize * usize::from(b)
 }
 
 // The lines of segment k. Lent, so that a loop over heights does not copy them at each turn.

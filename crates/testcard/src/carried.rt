@@ -78,7 +78,7 @@ fn factor(resolution: u8) -> u32 {
 
 // The middle of n columns or lines.
 fn middle(n: u16) -> f32 {
-    (n as f32) / 2.0 + 0.5
+    f32::from(n) / 2.0 + 0.5
 }
 
 // The disk's middle is the frame's.

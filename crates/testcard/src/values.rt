@@ -42,13 +42,13 @@ fn put_texts(out: &mut [u8; 1463], date: [u8; 8]) {
 fn shot_time(out: &[u8; 1463], timeline: u16) -> f64 {
     let day = format::day_or_0(format::date_of(wire::bytes_at(out, 114)));
     let minutes = timeline / 100 * 60 + timeline % 100;
-    (day as f64) + (minutes as f64) / 1440.0
+    f64::from(day) + f64::from(minutes) / 1440.0
 }
 
 // Segments are taken one after the other, all within ten minutes, and a file is made a quarter of an hour later.
 fn put_times(out: &mut [u8; 1463], shot: f64, number: u8, total: u8, order: u8) {
-    let each = 1.0 / 150.0 / (total as f64);
-    let ended = shot + (number as f64) * each;
+    let each = 1.0 / 150.0 / f64::from(total);
+    let ended = shot + f64::from(number) * each;
     reals::put(out, 46, &[ended - each, ended, ended + 0.01], order);
 }
 

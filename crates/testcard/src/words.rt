@@ -19,7 +19,7 @@ pub struct Asked {
     pub order: u8,
 }
 
-// No range of the format reaches this number, and no digit behind it makes another of it.
+// No range of the format reaches this number, and no digit behind it makes another of it. A number and no Option: `specs/Words` and `Cut` answer so.
 pub(crate) const NONE: u16 = 65535;
 
 const PLUS: u8 = 43;

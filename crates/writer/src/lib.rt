@@ -173,7 +173,7 @@ fn check_given(h: Header, e: Lent<'_>, n: usize) -> Result<(), Refusal>
     rules::placeless(check_placed(h, e, n))
 }
 
-// Writes a header, or says why not and leaves every byte as it was.
+// Writes a header, or says why not and leaves every byte as it was. The entries are lent one by one, as the clause names them; inside they are one `Lent`.
 #[tactic(auto, using(crate::proofs::Written::writing))]
 pub fn write(
     out: &mut [u8],
