@@ -25,8 +25,8 @@ pub enum Form {
     U32,
     // the upper half of eight bytes, of which the lower half is 0
     UpperHalf,
-    // so many decimal digits, at most 8, as text
-    Digits(usize),
+    // so many decimal digits, as text
+    Digits(u8),
 }
 
 impl Field {
@@ -59,9 +59,12 @@ impl Field {
             U32 => wire::put_number(out, at, n, plan.order),
             UpperHalf => wire::put_number(out, at, u64::from(n) << 32, plan.order),
             Digits(width) => {
-                let digits = format::decimal::<8>(n);
-                let text = wire::rest(&digits, digits.len().saturating_sub(width));
-                wire::put(out, at, text);
+                // not from `format`, whose code is tried on these files
+                let mut rest = n;
+                for place in (0..usize::from(width)).rev() {
+                    wire::put_byte(out, at + place, b'0' + (rest % 10) as u8);
+                    rest /= 10;
+                }
             }
         }
     }

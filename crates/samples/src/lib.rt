@@ -81,12 +81,17 @@ fn resolution_of(band: u16) -> u32
     }
 }
 
-// The last two digits of a number as text.
-#[tactic(auto, unfolding(format::specs::Texts::decimal))]
+// The last two digits of a number as text: not from `format`, whose code is tried on these files.
+fn two(n: u32) -> [u8; 2]
+    ensures { result ≡ two n }
+{
+    [b'0' + (n / 10 % 10) as u8, b'0' + (n % 10) as u8]
+}
+
 fn put_two(out: &mut [u8], at: usize, n: u32)
     ensures { Stored 2 out.old at (two n) out.new }
 {
-    wire::put_bytes(out, at, format::decimal::<2>(n));
+    wire::put_bytes(out, at, two(n));
 }
 
 // The number and the length of a block.
@@ -132,7 +137,7 @@ fn put_counts(out: &mut [u8], at: usize, n: usize, p: Plan)
 fn put_basic(out: &mut [u8], p: Plan)
     ensures { out.new ≡ filed out.old (basic p) }
 {
-    let digit = format::glyph(u32::from(p.satellite));
+    let [_, digit] = two(u32::from(p.satellite));
     let satellite = [
         b'H', b'i', b'm', b'a', b'w', b'a', b'r', b'i', b'-', digit, 0, 0, 0, 0, 0, 0,
     ];
