@@ -76,7 +76,7 @@ impl Case {
     }
 
     // Makes the file in a buffer, has it judged, and writes the line.
-    pub fn show(self, rt: &impl Print, buffer: &mut [u8]) -> io::Result<()> {
+    pub(crate) fn show(self, rt: &impl Print, buffer: &mut [u8]) -> io::Result<()> {
         let length = self.make(buffer);
         print!(rt; "{self}: ")?;
         match accept::accept(wire::piece(buffer, 0, length)) {

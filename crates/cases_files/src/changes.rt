@@ -32,7 +32,7 @@ pub enum Change {
 
 impl Change {
     // Changes the plan.
-    pub fn plan(self, plan: &mut Plan) {
+    pub(crate) fn plan(self, plan: &mut Plan) {
         match self {
             Change::Satellite(n) => plan.satellite = n,
             Change::Date(n) => plan.date = n,
@@ -57,7 +57,7 @@ impl Change {
     }
 
     // Changes the file that was made.
-    pub fn file(self, out: &mut [u8], plan: &Plan) {
+    pub(crate) fn file(self, out: &mut [u8], plan: &Plan) {
         match self {
             Change::Set(field, n) => field.set(out, plan, n),
             Change::Letters(field, letters) => field.set_letters(out, plan, letters),

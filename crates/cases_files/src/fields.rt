@@ -50,7 +50,7 @@ impl Field {
     }
 
     // Sets it to a number in the file of a plan.
-    pub fn set(self, out: &mut [u8], plan: &Plan, n: u32) {
+    pub(crate) fn set(self, out: &mut [u8], plan: &Plan, n: u32) {
         let at = self.at(plan);
         let (_, _, _, form) = self.layout();
         match form {
@@ -70,7 +70,7 @@ impl Field {
     }
 
     // Sets it to letters, which stand in a file as they are read, in either byte order.
-    pub fn set_letters(self, out: &mut [u8], plan: &Plan, letters: &str) {
+    pub(crate) fn set_letters(self, out: &mut [u8], plan: &Plan, letters: &str) {
         wire::put(out, self.at(plan), letters.as_bytes());
     }
 }

@@ -36,7 +36,7 @@ fn play(rt: &impl Print, stride: u8) -> io::Result<()> {
     Ok(())
 }
 
-pub fn run(rt: &impl Print) -> io::Result<()> {
+pub(crate) fn run(rt: &impl Print) -> io::Result<()> {
     for stride in 1..11 {
         play(rt, stride)?;
     }

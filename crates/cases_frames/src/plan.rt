@@ -19,7 +19,7 @@ pub struct Plan {
 
 impl Plan {
     // Segment 1 of the night at 0200, cut into so many columns, segments and lines, all of it lent.
-    pub fn cut(columns: u16, total: u8, lines: u16) -> Plan {
+    pub(crate) fn cut(columns: u16, total: u8, lines: u16) -> Plan {
         let counts = usize::from(columns) * usize::from(lines);
         Plan {
             sample: samples::Plan {
@@ -37,7 +37,7 @@ impl Plan {
         }
     }
 
-    pub fn changed(self, changes: &[Change]) -> Plan {
+    pub(crate) fn changed(self, changes: &[Change]) -> Plan {
         let mut plan = self;
         for change in changes {
             plan.change(*change);
@@ -69,7 +69,7 @@ impl Plan {
         }
     }
 
-    pub fn slate(self) -> Slated {
+    pub(crate) fn slate(self) -> Slated {
         let shot = self.sample;
         Slate::new(
             shot.satellite,
@@ -93,7 +93,7 @@ impl Plan {
     }
 
     // The file, and then its damage: as many bytes as the longest file has.
-    pub fn file(self) -> [u8; 1495] {
+    pub(crate) fn file(self) -> [u8; 1495] {
         let (count, step) = self.counts();
         // files are of July 2015, before which 57,203 is the last day
         let date = 20150700 + self.day % 57203;

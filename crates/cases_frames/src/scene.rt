@@ -62,7 +62,7 @@ fn try_slate(rt: &impl Print, plan: Plan) -> io::Result<()> {
 }
 
 impl Scene {
-    pub fn new(base: Plan) -> Scene {
+    pub(crate) fn new(base: Plan) -> Scene {
         Scene {
             base,
             slate: base.slate().slate,
@@ -72,7 +72,7 @@ impl Scene {
     }
 
     // Does what a step says, and tells it with the answer.
-    pub fn act(&mut self, rt: &impl Print, step: Step) -> io::Result<()> {
+    pub(crate) fn act(&mut self, rt: &impl Print, step: Step) -> io::Result<()> {
         let Step(changes, deed) = step;
         let plan = self.base.changed(changes);
         print!(rt; "{step}")?;
@@ -139,7 +139,7 @@ impl Scene {
 }
 
 // Plays the steps of a scene, under its title.
-pub fn play(rt: &impl Print, title: &str, base: Plan, steps: &[Step]) -> io::Result<()> {
+pub(crate) fn play(rt: &impl Print, title: &str, base: Plan, steps: &[Step]) -> io::Result<()> {
     println!(rt; "-- {title}")?;
     let mut scene = Scene::new(base);
     for step in steps {

@@ -103,7 +103,7 @@ fn show(rt: &impl Print, order: u8, a: u16, b: u16, c: u16) -> io::Result<()> {
     again(rt, wire::piece(&out, 0, n + 16), n, kept)
 }
 
-pub fn run(rt: &impl Print) -> io::Result<()> {
+pub(crate) fn run(rt: &impl Print) -> io::Result<()> {
     for (order, a, b, c) in CASES {
         show(rt, order, a, b, c)?;
     }

@@ -6,14 +6,14 @@ use rules::Refusal;
 use std::array;
 
 // The first n numbers of a list. A line that cases_writer has, too: no crate below both would be its place.
-pub fn first<T>(list: &[T], n: u16) -> &[T]
+pub(crate) fn first<T>(list: &[T], n: u16) -> &[T]
     ensures { result.now ≡ take n list.now }
 {
     &list[..list.len().min(usize::from(n))]
 }
 
 // Writes a good header with lists of a, b and c entries.
-pub fn write(out: &mut [u8], order: u8, a: u16, b: u16, c: u16) -> Result<(), Refusal> {
+pub(crate) fn write(out: &mut [u8], order: u8, a: u16, b: u16, c: u16) -> Result<(), Refusal> {
     // neighbours differ in every byte, and so do parts that start elsewhere
     let shorts: [u16; 49152] = array::from_fn(|i| ((i % 65536 * 259 + 513) % 65536) as u16);
     let shifts: [u32; 16384] = array::from_fn(|i| ((i % 65536 * 16909060 + 3735928559)

@@ -3,7 +3,7 @@ use header::Header;
 use samples::Plan;
 
 // Where no rule speaks, neighbours differ, and so do runs of bytes that start elsewhere.
-pub fn good(order: u8) -> Header {
+pub(crate) fn good(order: u8) -> Header {
     let plan = Plan {
         order,
         fill: 0x11,

@@ -41,7 +41,7 @@ fn first<T>(list: &[T], n: usize) -> &[T]
 }
 
 impl Given {
-    pub fn new(changes: &[Change]) -> Given {
+    pub(crate) fn new(changes: &[Change]) -> Given {
         let mut given = Given {
             plan: samples::paper(),
             flag: 0,
@@ -115,7 +115,7 @@ impl Given {
     }
 
     // Writes to as much of an output as there is room for.
-    pub fn write(self, out: &mut [u8]) -> Result<(), Refusal> {
+    pub(crate) fn write(self, out: &mut [u8]) -> Result<(), Refusal> {
         let room = self.room.min(out.len());
         writer::write(
             &mut out[..room],

@@ -26,7 +26,7 @@ fn tell(rt: &impl Print, changes: &[Change]) -> io::Result<()> {
     Ok(())
 }
 
-pub fn case(rt: &impl Print, changes: &[Change]) -> io::Result<()> {
+pub(crate) fn case(rt: &impl Print, changes: &[Change]) -> io::Result<()> {
     tell(rt, changes)?;
     let mut out = [BLANK; 2048];
     let verdict = Given::new(changes).write(&mut out);
