@@ -1,10 +1,16 @@
 // Bytes and numbers read at places of a run of bytes.
+ghost use Rattle.std.specs.Prelude.{◌≡◌};
+ghost use Rattle.wire.specs.Wire.{span};
+
 use crate::BYTES;
 use crate::hex::Hex;
 use std::io;
 
 // The last byte, the end, and the highest place that there is.
 const PLACES: [usize; 3] = [8, 9, usize::MAX];
+
+// What a slice holds before it is filled.
+const BLANK: [u8; 4] = [0xee; 4];
 
 // How many bytes, the byte order and the place.
 const NUMBERS: [(u8, u8, usize); 14] = [
@@ -37,6 +43,15 @@ const PAIRS: [[(usize, usize); 2]; 4] = [
     [(0, 0), (6, 0)],
 ];
 
+// What was blank, filled from a place on.
+fn filled(s: &[u8], at: usize) -> [u8; 4]
+    ensures { result ≡ span s.now at 4 }
+{
+    let mut bytes = BLANK;
+    wire::fill(&mut bytes, s, at);
+    bytes
+}
+
 pub(crate) fn run_places(rt: &impl Print) -> io::Result<()> {
     let s = &BYTES;
     for at in PLACES {
@@ -44,8 +59,11 @@ pub(crate) fn run_places(rt: &impl Print) -> io::Result<()> {
         println!(rt; "byte at {at} of {asked}: {:02x}", wire::byte_at(s, at))?;
         println!(rt; "left at {at} of {asked}: {}", wire::left(s, at))?;
         println!(rt; "rest at {at} of {asked}: {}", Hex(wire::rest(s, at)))?;
-        let bytes: [u8; 4] = wire::bytes_at(s, at);
-        println!(rt; "fill eeeeeeee at {at} of {asked}: {}", Hex(&bytes))?;
+        println!(rt;
+            "fill {} at {at} of {asked}: {}",
+            Hex(&BLANK),
+            Hex(&filled(s, at))
+        )?;
     }
     Ok(())
 }

@@ -11,6 +11,7 @@ use Rattle.wire.proofs.left.Reads as left
 use Rattle.wire.proofs.rest.Reads as rest
 use Rattle.wire.proofs.piece.Reads as piece
 use Rattle.wire.proofs.bytes_at.Reads as bytes_at
+use Rattle.wire.proofs.fill.Reads as fill
 use Rattle.wire.proofs.number_at.Reads as number_at
 use Rattle.wire.proofs.put_bytes.Reads as put_bytes
 use denote.Struct.Field.{u16-field, u32-field, u64-field}
@@ -164,6 +165,9 @@ rest_one κ a x y s t p q = p ∙ sym q
 
 pub piece_one : One (λ κ x s. x.now) piece.Post
 piece_one κ a x y s t p q = p ∙ sym q
+
+pub fill_one : One (λ κ x s. s.0.now) fill.Post
+fill_one κ a x y s t p q = p ∙ sym q
 
 -- The functions of a width: n is the width and `word` the number that a value of the type is. That of a u16, a u32 or a u64 is the value itself.
 pub bytes_at_one : (n d : _) → One (λ κ x s. x) (bytes_at.Post n d)

@@ -61,4 +61,8 @@ span_from_take bs s at w e h = span_from_each bs s at w (grind (arith, common_st
 pub span_rest : (s : List ℕ) (at w : ℕ) → span (drop at s) 0 w ≡ span s at w
 span_rest s at w = rw (span_drop s at 0 w, add-zero)
 
-pub ruleset spans = (span_from_each, span_from_take, span_rest)
+-- what has the bytes of what is left from a place on
+pub span_from_rest : (bs r s : List ℕ) (at w : ℕ) → r ≡ drop at s → length bs ≡ w → ((k : ℕ) → k < w → get_or bs k 0 ≡ get_or r k 0) → bs ≡ span s at w
+span_from_rest bs r s at w q l e = span_from_each bs s at w l (λ k h. e k h ∙ rw (q, get_or-drop))
+
+pub ruleset spans = (span_from_take, span_rest, span_from_rest)

@@ -48,7 +48,11 @@ store_in l bs v at n k h e f g =
     let fits : at + length (take n bs) ≤ length l = omega arith in
     rw (f, g) (rw (← clip l at n bs e, sets-eq (take n bs) l at fits) (grind (arith, common_steps)))
 
-pub ruleset stores = (store_out, store_in)
+-- the same where there is room for all
+pub store_all : (l bs v : List ℕ) (at n k : ℕ) → at ≤ length l → length bs ≤ length l - at → v ≡ bs → k ≡ length bs → take at l ++ (v ++ drop k (drop at l)) ≡ store l at bs
+store_all l bs v at n k h r f g = store_in l bs v at (length bs) k h (omega arith) (f ∙ grind (arith, common_steps)) g
+
+pub ruleset stores = (store_out, store_in, store_all)
 
 -- a run of stores, each where the last one ended: from l to out, the n bytes of the pieces ps from at on
 pub data Puts : List ℕ → ℕ → ℕ → List (List ℕ) → List ℕ → Type 0 where

@@ -146,15 +146,23 @@ pub fn bytes_at<const N: usize>(s: &[u8], at: usize) -> [u8; N]
 }
 
 // The first N bytes, and 0 for each that is missing.
-#[tactic(auto, using(crate::proofs::Spans::spans))]
 fn padded<const N: usize>(s: &[u8]) -> [u8; N]
     ensures { result ≡ span s.now 0 N }
 {
     let mut bytes = [0; N];
-    for i in 0..N {
-        bytes[i] = byte_at(s, i);
-    }
+    fill(&mut bytes, s, 0);
     bytes
+}
+
+// Fills a lent slice with the bytes from a place on.
+#[tactic(auto, using(crate::proofs::Spans::spans))]
+pub fn fill(dst: &mut [u8], s: &[u8], at: usize)
+    ensures { dst.new ≡ span s.now at (length dst.old) }
+{
+    let rest = rest(s, at);
+    for (i, byte) in dst.iter_mut().enumerate() {
+        *byte = byte_at(rest, i);
+    }
 }
 
 // The number of N bytes from a place on.
@@ -172,14 +180,19 @@ pub fn same(a: &[u8], b: &[u8]) -> bool
     a == b
 }
 
-// Stores a run of bytes from a place on.
+// Stores a run of bytes from a place on. Where there is room for all, the copy is as long as the run, which the compiler knows of a number's bytes.
 #[tactic(auto, using(crate::proofs::Stores::stores))]
 pub fn put(out: &mut [u8], at: usize, src: &[u8])
     ensures { out.new ≡ store out.old at src.now }
 {
-    if at <= out.len() {
-        let n = src.len().min(out.len() - at);
-        out[at..at + n].copy_from_slice(&src[..n]);
+    if at > out.len() {
+        return;
+    }
+    let room = out.len() - at;
+    if src.len() <= room {
+        out[at..at + src.len()].copy_from_slice(src);
+    } else {
+        out[at..].copy_from_slice(&src[..room]);
     }
 }
 
