@@ -78,6 +78,7 @@ impl Field {
 impl fmt::Display for Field {
     fn fmt<W: fmt::Write>(&self, f: &mut fmt::Formatter<W>) -> fmt::Result {
         let (block, place, name, _) = self.layout();
+        let name = str::from_utf8(say::trimmed(name.as_bytes())).unwrap_or(name);
         match self {
             Field::Byte(_) => write!(f, "block {block} {name} {place}"),
             _ => write!(f, "block {block} {name}"),

@@ -53,13 +53,12 @@ fn record_of(marks: &[u8]) -> Record
 }
 
 // The slate of a struct's numbers, or refusal 13 where the marks will not do or the slate is bad.
-#[tactic(auto, using(rules::proofs::Judge::judging), unfolding(crate::specs::Strips::lent, slate::specs::Slates::slated, rules::specs::Rules::after))]
+#[tactic(auto, using(rules::proofs::Judge::judging, crate::proofs::Lending::slate_told), unfolding(crate::specs::Strips::lent, slate::specs::Slates::slated, rules::specs::Rules::after))]
 fn slate_of(s: HsdSlate, marked: bool) -> Result<Slate, Refusal>
     ensures ruling { paper result ≡ slate_c s marked }
     ensures marks_good { OnOk result (marked ≡ true) }
     ensures ok { IfOk result (λ slate. slate ≡ slate_in s) }
 {
-    rules::require(marked, Why::Slate, 0, 0)?;
     let made = Slate::new(
         s.satellite,
         s.day,
@@ -71,6 +70,7 @@ fn slate_of(s: HsdSlate, marked: bool) -> Result<Slate, Refusal>
         s.heights,
     );
     made.verdict?;
+    rules::require(marked, Why::Slate, 0, 0)?;
     Ok(made.slate)
 }
 
