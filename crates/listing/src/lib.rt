@@ -110,7 +110,8 @@ fn put_answer(out: &mut [u8], answer: Result<Facts, Refusal>) -> usize
 pub fn line(file: &[u8], out: &mut [u8; 64]) -> usize
     ensures { Listed file.now out.old out.new result }
 {
-    if 65536 < file.len() {
+    let big = 65536 < file.len();
+    if big {
         wire::put(out, 0, b"BIG\n");
         return 4;
     }

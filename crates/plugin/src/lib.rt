@@ -107,10 +107,10 @@ impl From<Result<Facts, Refusal>> for HsdFile {
                     constant: cal.constant,
                 }
             }
-            Err(t) => HsdFile {
-                refusal: rules::number_of(t.why),
-                block: t.block,
-                offset: t.offset,
+            Err(refusal) => HsdFile {
+                refusal: rules::number_of(refusal.why),
+                block: refusal.block,
+                offset: refusal.offset,
                 ..HsdFile::default()
             },
         }

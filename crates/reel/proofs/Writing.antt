@@ -14,8 +14,8 @@ use lib.Seq.{drop-cons, drop-drop, length-take-le, drop-length}
 use Rattle.wire.specs.Wire.{lows, digits, join, store, Stored}
 use Rattle.wire.proofs.Numbers.{length_digits}
 use Rattle.wire.proofs.Stores.{store_append, front}
-use Rattle.rules.specs.Rules.{Turned, turned, Row, test, fine, refused, checked, judge, tables, after}
-use Rattle.rules.proofs.Judge.{judge_append, judge_refused, exactly, each_is}
+use Rattle.rules.specs.Rules.{Turned, turned, Row, Ruling, test, fine, refused, checked, judge, tables, after}
+use Rattle.rules.proofs.Judge.{judge_append, judge_refused, exactly}
 use Rattle.accept.specs.Checks.{checks}
 use Rattle.reel.specs.Ends.{big, most, letters, ending}
 use Rattle.reel.specs.Reels.{entries, trailer_of, trailer_length, reel_of, filed, Good}
@@ -211,17 +211,23 @@ bounds s ls e =
 
 -- ---- the verdict
 
-pub first_row : (b : Bool) (u : Turned) (ts : List (List Row)) → b ≡ false → judge fine (tables ((test b u ∷ []) ∷ ts)) ≡ refused u
-first_row b u ts e = rw e (judge_refused u (tables ts))
-
 pub writing_bad : (s ls : List ℕ) (need room : ℕ) → good_list s ls ≡ false → judge fine (writing s ls need room) ≡ refused (turned 18 0 0)
 unfolding writing
-writing_bad s ls need room e = first_row (good_list s ls) (turned 18 0 0) (filed (listed s ls) ∷ (test (leb need room) (turned 17 0 0) ∷ []) ∷ []) e
+writing_bad s ls need room e = rw (e, judge_append, judge_refused)
+
+-- of a good list the files' own refusals come before the room's
+writing_good : (s ls : List ℕ) (need room : ℕ) → good_list s ls ≡ true → judge fine (writing s ls need room) ≡ checked (judge fine (filed (listed s ls))) (leb need room) (turned 17 0 0)
+unfolding writing
+writing_good s ls need room e = rw (e, judge_append)
 
 -- what a check that holds says
 pub passed : (ok : Bool) (u : Turned) → fine ≡ checked fine ok u → ok ≡ true
 passed true u e = refl
 passed false u e = absurd (let z : ◌≡◌ {A = ℕ} 0 1 = cc in omega arith)
+
+-- a check that does not hold, told before all others
+pub first_row : (b : Bool) (u : Turned) (ts : List (List Row)) → b ≡ false → judge fine (tables ((test b u ∷ []) ∷ ts)) ≡ refused u
+first_row b u ts e = rw e (judge_refused u (tables ts))
 
 pub ruleset listing = (length_short, trailed, good_none, good_sum, good_size)
 
@@ -232,11 +238,19 @@ record Fine (s ls : List ℕ) (need room : ℕ) : Type 0 where
   pub files : Good (listed s ls)
   pub fits : need ≤ room
 
+checked_fine : (v : Ruling) (ok : Bool) (u : Turned) → checked v ok u ≡ fine → (v ≡ fine) × (ok ≡ true)
+checked_fine fine true u e = (refl, refl)
+checked_fine fine false u e = absurd (let z : ◌≡◌ {A = ℕ} 0 1 = cc in omega arith)
+checked_fine (refused t) ok u e = absurd (let z : ◌≡◌ {A = ℕ} 0 1 = cc in omega arith)
+
 fine_is : (s ls : List ℕ) (need room : ℕ) → judge fine (writing s ls need room) ≡ fine → Fine s ls need room
-unfolding writing
-fine_is s ls need room e =
-    let k = each_is ((test (good_list s ls) (turned 18 0 0) ∷ []) ∷ filed (listed s ls) ∷ (test (leb need room) (turned 17 0 0) ∷ []) ∷ []) ((exactly (writing s ls need room)).0 e) in
-    record { list = listed_is s ls k.0.0; files = all_good (listed s ls) k.1.0; fits = leb-true need room k.1.1.0.0 }
+fine_is s ls need room e = go (good_list s ls) refl
+  where
+    go : (g : Bool) → good_list s ls ≡ g → Fine s ls need room
+    go false q = absurd (let r : refused (turned 18 0 0) ≡ fine = sym (writing_bad s ls need room q) ∙ e in let z : ◌≡◌ {A = ℕ} 0 1 = cc in omega arith)
+    go true q =
+        let k = checked_fine _ _ _ (sym (writing_good s ls need room q) ∙ e) in
+        record { list = listed_is s ls q; files = all_good (listed s ls) ((exactly (filed (listed s ls))).0 k.0); fits = leb-true need room k.1 }
 
 -- the room that the code asks for: that of a list that is bad anyway does not matter
 same_need : (s ls : List ℕ) (a b room : ℕ) → (good_list s ls ≡ true → a ≡ b) → judge fine (writing s ls a room) ≡ judge fine (writing s ls b room)

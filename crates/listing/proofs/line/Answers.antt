@@ -5,14 +5,14 @@ use Rattle.listing.specs.Lines.{listed}
 use Rattle.listing.proofs.Words.{at_front}
 use Rattle.listing.proofs.line.Goals as goal
 
-pub returns-then-file-gt65536 : goal.returns-then-file-gt65536
+pub returns-then-big : goal.returns-then-big
 unfolding listed
-returns-then-file-gt65536 c =
-    let big = lt-ltb 65536 _ c.if-file-gt65536.true in
+returns-then-big c =
+    let big = lt-ltb 65536 _ c.if-big.true in
     at_front (record { long = rw big; is = rw big c.put.ensures }) (search rules)
 
 pub returns : goal.returns
 unfolding listed
 returns c =
-    let small = le-ltb 65536 _ c.if-file-gt65536.false in
+    let small = le-ltb 65536 _ c.if-big.false in
     at_front (rw (small, ← c.accept.ensures) c.put_answer.ensures.0) (search rules)

@@ -12,7 +12,8 @@ loop-piece-init c =
     let long = ap length rest ∙ length-take-le (length s / 2 * 2) s (omega arith) in
     record {
       so_far = rw zeros (rest_begun _ _ _ _ rest);
-      size = cc;
+      most = search rules;
+      halves = search rules;
       even = omega arith;
       error_fits = rw zeros (omega arith);
       outside_fits = rw zeros (omega arith);
@@ -24,11 +25,12 @@ pub loop-piece-preserved : goal.loop-piece-preserved
 loop-piece-preserved c =
     let steps = c.in-Some.ensures.steps in
     let long = ap length steps.1.0 ∙ length-append c.in-Some.piece.now (chunks_rest c.next.new.self) in
-    let even : length c.in-Some.piece.now % 2 ≡ 0 = omega (arith, steps.1.1, c.loop-piece.invariant.size) in
+    let even : length c.in-Some.piece.now % 2 ≡ 0 = omega (arith, steps.1.1, c.loop-piece.invariant.halves) in
     let found = c.sort_bytes-sorted.ensures.numbers_in_bounds in
     record {
       so_far = rest_next _ _ _ _ _ _ even steps.1.0 c.sort_bytes-sorted.ensures.sorted c.loop-piece.invariant.so_far;
-      size = steps.0 ∙ c.loop-piece.invariant.size;
+      most = rw steps.0 c.loop-piece.invariant.most;
+      halves = rw steps.0 c.loop-piece.invariant.halves;
       even = omega arith;
       error_fits = omega (arith, found.0);
       outside_fits = omega (arith, found.1);
