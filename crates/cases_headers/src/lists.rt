@@ -15,6 +15,7 @@ pub(crate) fn first<T>(list: &[T], n: u16) -> &[T]
 // Writes a good header with lists of a, b and c entries.
 pub(crate) fn write(out: &mut [u8], order: u8, a: u16, b: u16, c: u16) -> Result<(), Refusal> {
     // neighbours differ in every byte, and so do parts that start elsewhere
+    // by from_fn, which takes 123 KiB of the stack more than fills in place would: no input makes it more
     let shorts: [u16; 49152] = array::from_fn(|i| ((i % 65536 * 259 + 513) % 65536) as u16);
     let shifts: [u32; 16384] = array::from_fn(|i| ((i % 65536 * 16909060 + 3735928559)
         % 4294967296) as u32);
