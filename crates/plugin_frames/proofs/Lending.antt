@@ -71,22 +71,6 @@ pub good_long : (m : List ℕ) → good_marks m ≡ true → length m ≡ 99
 unfolding good_marks
 good_long m g = eqb-true (length m) 99 ((and-eq-true_iff (long_marks m) (bits_from m 0)).0 g).0
 
--- whichever of the two comes first, SLATE is what is said
-slate_marked : (s : HsdSlate) (ok : Bool) → checked (judge fine (slated (slate_in s))) ok (turned 13 0 0) ≡ slate_c s ok
-unfolding lent slated
-slate_marked s ok = go ok (good_slate (slate_in s))
-  where
-    go : (x y : Bool) → checked (checked fine y (turned 13 0 0)) x (turned 13 0 0) ≡ checked (checked fine x (turned 13 0 0)) y (turned 13 0 0)
-    go true true = refl
-    go true false = refl
-    go false true = refl
-    go false false = refl
-
-pub slate_told : (s : HsdSlate) (ok : Bool) {v : Ruling} {u : Turned} → v ≡ refused u → v ≡ judge fine (slated (slate_in s)) → v ≡ slate_c s ok
-slate_told s ok {v} {u} f e =
-    let g : refused u ≡ judge fine (slated (slate_in s)) = sym f ∙ e in
-    f ∙ ap (λ (r : Ruling). checked r ok (turned 13 0 0)) g ∙ slate_marked s ok
-
 module _ (s : HsdSlate) (ok : Bool) (t : Turned) (e : slate_c s ok ≡ refused t) where
   first : checked (checked fine ok (turned 13 0 0)) (good_slate (slate_in s)) (turned 13 0 0) ≡ refused t
   unfolding lent slated

@@ -43,17 +43,18 @@ fn good_marks(marks: &[u8]) -> bool
 
 #[tactic(auto, using(crate::proofs::Lending::flags_from_each))]
 fn record_of(marks: &[u8]) -> Record
+    requires { length marks.now ≡ 99 }
     ensures { result.marks ≡ marks_in marks.now }
 {
     let mut held = [false; 99];
     for (k, mark) in held.iter_mut().enumerate() {
-        *mark = wire::byte_at(marks, k) == 1;
+        *mark = marks[k] == 1;
     }
     Record { marks: held }
 }
 
 // The slate of a struct's numbers, or refusal 13 where the marks will not do or the slate is bad.
-#[tactic(auto, using(rules::proofs::Judge::judging, crate::proofs::Lending::slate_told), unfolding(crate::specs::Strips::lent, slate::specs::Slates::slated, rules::specs::Rules::after))]
+#[tactic(auto, using(rules::proofs::Judge::judging), unfolding(crate::specs::Strips::lent, slate::specs::Slates::slated, rules::specs::Rules::after))]
 fn slate_of(s: HsdSlate, marked: bool) -> Result<Slate, Refusal>
     ensures ruling { paper result ≡ slate_c s marked }
     ensures marks_good { OnOk result (marked ≡ true) }
@@ -69,8 +70,8 @@ fn slate_of(s: HsdSlate, marked: bool) -> Result<Slate, Refusal>
         s.total,
         s.heights,
     );
-    made.verdict?;
     rules::require(marked, Why::Slate, 0, 0)?;
+    made.verdict?;
     Ok(made.slate)
 }
 
@@ -136,7 +137,7 @@ fn copy(line: &[u16], out: &mut [u16]) -> usize
 }
 
 // Copies a line of the frame, or of the leader where its segment is missing, and answers how many counts these are.
-#[tactic(auto, using(crate::proofs::Lending::lent_line, crate::proofs::Lending::none_copied), unfolding(crate::specs::Strips::line_c))]
+#[tactic(auto, using(crate::proofs::Lending::good_long, crate::proofs::Lending::lent_line, crate::proofs::Lending::none_copied), unfolding(crate::specs::Strips::line_c))]
 pub fn hsd_line<'a>(
     slate: HsdSlate,
     marks: &[u8],
