@@ -25,9 +25,9 @@ used_blank s i (suc n) h b =
     (eq-or-lt_of_le h)
 
 -- up to the last byte that is no blank
-pub trims_last : (s : List ℕ) (i : ℕ) → i < length s → (get_or s i 0 ≡ 32 → ⊥) → Blank s (i + 1) (length s) → take (i + 1) s ≡ trimmed s
+pub trims_last : (s : List ℕ) (i n : ℕ) → i < length s → (get_or s i 0 ≡ 32 → ⊥) → Blank s (i + 1) (length s) → n ≡ i + 1 → take n s ≡ trimmed s
 unfolding trimmed used
-trims_last s i h l b = rw (used_blank s (i + 1) (length s) (omega arith) b, add-one, ne_eqb _ _ l)
+trims_last s i n h l b e = rw (e, used_blank s (i + 1) (length s) (omega arith) b, add-one, ne_eqb _ _ l)
 
 -- and where there is none, nothing
 pub trims_all : (s : List ℕ) → Blank s 0 (length s) → [] ≡ trimmed s
